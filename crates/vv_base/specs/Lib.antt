@@ -1,0 +1,4 @@
+pub mod Codes
+pub mod InMemory
+pub mod OfSystem
+pub mod Outside
