@@ -1,0 +1,9 @@
+pub mod Among
+pub mod Steps
+pub mod Declares
+pub mod Assigns
+pub mod Found
+pub mod Listed
+pub mod Order
+pub mod Law
+pub mod Whole
