@@ -1,0 +1,11 @@
+pub mod Chains
+pub mod Elements
+pub mod Flattened
+pub mod Legal
+pub mod Mangling
+pub mod MapLine
+pub mod Printed
+pub mod ReadNames
+pub mod Sound
+pub mod Targets
+pub mod TextParts
