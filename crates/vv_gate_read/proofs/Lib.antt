@@ -1,0 +1,12 @@
+pub mod Tokens
+pub mod Marks
+pub mod Drives
+pub mod Runs
+pub mod Advance
+pub mod Forward
+pub mod Completed
+pub mod Order
+pub mod Judged
+pub mod Names
+pub mod Cut
+pub mod Words
