@@ -10,10 +10,10 @@ use Rattle.vv_gate.specs.declared.token.Mark.{Mark}
 use Rattle.vv_gate.specs.declared.token.Mark.TheVariants as mk
 use Rattle.vv_gate.specs.declared.tree.Operator.{Operator}
 use Rattle.vv_gate.specs.declared.tree.Operator.TheVariants as operator
-use Rattle.vv_gate_read.specs.Symbols.{Symbol, name, mark, other, finish, is_mark}
+use Rattle.vv_gate_lex.specs.Symbols.{Symbol, name, mark, other, finish, is_mark}
 use Rattle.vv_gate_read.specs.Grammar.{joined, spelled_ident, direction, spelled_group, spelled_operand, spelled_term, operator_mark, spelled_assignment, spelled_context, spelled_entity, spelled_architecture}
 use Rattle.vv_gate_read.specs.Machine.{Context, Ports, Chain, Place, at_logic, after_logic, at_numeric, at_entity, at_port, after_port, at_mode, after_group, at_architecture, at_of, at_statement, at_term, at_operand, after_term, at_finish, done, State, on_name, when, wait, choose, step_at, step, no_groups, with_ident, with_group, group_with, no_idents, no_assignments, no_terms, with_term, operator_or_and, assignment_with, with_assignment, operator_of, may_follow, same_operator, more_terms, operand_from, after_mode}
-use Rattle.vv_gate_read.proofs.Marks.{mark_is}
+use Rattle.vv_gate_lex.proofs.Marks.{mark_is}
 use Rattle.vv_gate_read.proofs.Runs.{after, run, opening, ended_group, ended_ident, front_port, front_architecture, heading, front_statement, ended_term, front_term, front, IsContext, ArePorts, IsChain, Good, Reached}
 
 -- regrouped lists

@@ -2,7 +2,7 @@
 use Rattle.std.proofs.Common.{◌≡◌, List, [], ◌∷◌, ◌++◌, map, flat_map, Some, codes, refl, sym, ◌∙◌, append_assoc, append-nil}
 use Rattle.vv_gate.specs.Tree.{Ident, GateFile}
 use Rattle.vv_gate.specs.declared.token.Mark.TheVariants as mk
-use Rattle.vv_gate_read.specs.Symbols.{Symbol, name, mark, finish, is_mark}
+use Rattle.vv_gate_lex.specs.Symbols.{Symbol, name, mark, finish, is_mark}
 use Rattle.vv_gate_read.specs.Grammar.{joined, spelled_assignment, spelled_group, spelled_context, spelled_entity, spelled_architecture, spelled, IsViable}
 use Rattle.vv_gate_read.specs.Machine.{Place, at_logic, after_logic, at_numeric, at_entity, at_port, after_port, at_mode, after_group, at_architecture, at_of, at_statement, at_term, at_operand, after_term, at_finish, done, State}
 use Rattle.vv_gate_read.proofs.Runs.{at, run, run-expected, Reached}

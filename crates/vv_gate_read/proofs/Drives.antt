@@ -2,10 +2,10 @@
 use Rattle.std.proofs.Common.{◌≡◌, ℕ, List, [], ◌∷◌, Option, Some, None, refl, sym, ap, ◌∙◌}
 use Rattle.vv_gate.specs.Tree.{GateFile}
 use Rattle.vv_gate.specs.declared.token.Mark.{Mark}
-use Rattle.vv_gate_read.specs.Symbols.{finish, is_mark, Token}
-use Rattle.vv_gate_read.specs.Lexical.{skip, first_of, tokens}
+use Rattle.vv_gate_lex.specs.Symbols.{finish, is_mark, Token}
+use Rattle.vv_gate_lex.specs.Lexical.{skip, first_of, tokens}
 use Rattle.vv_gate_read.specs.Machine.{Place, at_logic, after_logic, at_numeric, at_entity, at_port, after_port, at_mode, after_group, at_architecture, at_of, at_statement, at_term, at_operand, after_term, at_finish, done, State, step, Outcome, Reads, Stops, going, drive, ending_at, ending}
-use Rattle.vv_gate_read.proofs.Tokens.{tokens-first}
+use Rattle.vv_gate_lex.proofs.Tokens.{tokens-first}
 
 pub drive-takes : (s n : State) (t : Token) (ts : List Token) → step s t.symbol ≡ Some n → drive s (t ∷ ts) ≡ drive n ts
 unfolding drive

@@ -8,7 +8,7 @@ use Rattle.vv_gate.specs.Whole.{IsWhole, IsWholeAssignment}
 use Rattle.vv_gate.specs.declared.token.Mark.TheVariants as mk
 use Rattle.vv_gate.specs.declared.tree.Operator.{Operator}
 use Rattle.vv_gate.specs.declared.tree.Operator.TheVariants as operator
-use Rattle.vv_gate_read.specs.Symbols.{Symbol, name, mark, finish, is_mark}
+use Rattle.vv_gate_lex.specs.Symbols.{Symbol, name, mark, finish, is_mark}
 use Rattle.vv_gate_read.specs.Grammar.{joined, spelled_ident, direction, spelled_group, spelled_term, operator_mark, spelled_assignment, spelled_numeric, spelled_context, spelled_entity, spelled_architecture, spelled}
 use Rattle.vv_gate_read.specs.Machine.{Context, Ports, Chain, after_logic, at_entity, at_port, after_group, at_architecture, at_statement, at_term, after_term, done, start, when, wait, with_ident, no_idents, no_assignments, no_terms, with_term, assignment_with, with_assignment, operator_of, may_follow, same_operator, more_terms}
 use Rattle.vv_gate_read.proofs.Runs.{at, after, run}

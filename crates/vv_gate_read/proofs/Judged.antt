@@ -2,8 +2,8 @@
 use Rattle.std.proofs.Common.{◌≡◌, ℕ, ◌≤◌, length, List, [], ◌∷◌, ◌++◌, map, Option, Some, None, refl, sym, ap, ◌∙◌, subst, append_assoc, ◌⊎◌, inl, inr}
 use Rattle.vv_gate.specs.Tree.{GateFile}
 use Rattle.vv_gate.specs.declared.token.Mark.{Mark}
-use Rattle.vv_gate_read.specs.Symbols.{Symbol, finish, is_mark, Token}
-use Rattle.vv_gate_read.specs.Lexical.{tokens}
+use Rattle.vv_gate_lex.specs.Symbols.{Symbol, finish, is_mark, Token}
+use Rattle.vv_gate_lex.specs.Lexical.{tokens}
 use Rattle.vv_gate_read.specs.Grammar.{spelled, IsMisplaced}
 use Rattle.vv_gate_read.specs.Machine.{Place, at_logic, after_logic, at_numeric, at_entity, at_port, after_port, at_mode, after_group, at_architecture, at_of, at_statement, at_term, at_operand, after_term, at_finish, done, State, start, step_at, step, Outcome, Reads, Stops, drive}
 use Rattle.vv_gate_read.specs.Reading.{IsReading}

@@ -1,5 +1,3 @@
-pub mod Tokens
-pub mod Marks
 pub mod Drives
 pub mod Runs
 pub mod Advance
@@ -7,6 +5,3 @@ pub mod Forward
 pub mod Completed
 pub mod Order
 pub mod Judged
-pub mod Names
-pub mod Cut
-pub mod Words

@@ -2,13 +2,13 @@
 use Rattle.std.proofs.Common.{◌≡◌, ℕ, zero, suc, ◌<◌, ◌≤◌, ◌-◌, Bool, true, false, if◌then◌else◌, ◌==◌, ◌&&◌, ◌||◌, List, [], ◌∷◌, ◌++◌, length, take, drop, map, flat_map, Option, Some, None, All, refl, sym, ap, ◌∙◌, subst, append-nil, append_assoc, arith}
 use Rattle.std.proofs.lemmas.List.Elements.{All-nil, All-cons, All-head, All-tail, All-map, All-weaker}
 use Rattle.vv_gate.specs.Tree.{Ident, Group, Operand, low, high, port, Term, Assignment, GateFile}
-use Rattle.vv_gate.specs.Whole.{is_letter, is_digit, is_underscore, is_name_byte, IsName, idents_of_operand, idents_of_term, idents_of_assignment, idents_of_option, idents_of, Ascends, IsPlaced}
+use Rattle.vv_gate.specs.Whole.{is_letter, is_underscore, is_name_byte, IsName, idents_of_operand, idents_of_term, idents_of_assignment, idents_of_option, idents_of, Ascends, IsPlaced}
 use Rattle.vv_gate.specs.declared.token.Mark.{Mark}
 use Rattle.vv_gate.specs.declared.token.Mark.TheVariants as mk
-use Rattle.vv_gate_read.specs.Symbols.{Symbol, name, mark, other, finish, Token}
-use Rattle.vv_gate_read.specs.Lexical.{is_bit, is_alphanumeric, begins, name_tail, symbol_at, sign, named, keyword, skip, size, first_of, tokens_within, tokens}
+use Rattle.vv_gate_lex.specs.Symbols.{Symbol, name, mark, other, finish, Token}
+use Rattle.vv_gate_lex.specs.Lexical.{is_bit, is_alphanumeric, begins, name_tail, symbol_at, sign, named, keyword, skip, size, first_of, tokens_within, tokens}
 use Rattle.vv_gate_read.specs.Grammar.{joined, spelled_ident, direction, spelled_group, spelled_term, operator_mark, spelled_assignment, spelled_context, spelled_entity, spelled_architecture, spelled}
-use Rattle.vv_gate_read.proofs.Tokens.{skip-length, behind-less}
+use Rattle.vv_gate_lex.proofs.Tokens.{skip-length, behind-less, name_byte}
 
 -- a name has the form and the place of its token
 abbrev pub NameAt : Symbol → ℕ → Type 0
@@ -29,15 +29,6 @@ Closed (t ∷ u ∷ more) = Closed (u ∷ more)
 or_left : (a b : Bool) → a ≡ true → (a || b) ≡ true
 or_left true b h = refl
 or_left false b h = let z : false ≡ true = h in cc
-
-pub name_byte : (b : ℕ) (c : Bool) → (is_alphanumeric b || (is_underscore b && c)) ≡ true → is_name_byte b ≡ true
-name_byte b c h = go (is_letter b) (is_digit b) (is_underscore b) c h
-  where
-    go : (l d u c : Bool) → ((l || d) || (u && c)) ≡ true → (l || (d || u)) ≡ true
-    go true d u c h = refl
-    go false true u c h = refl
-    go false false true c h = refl
-    go false false false c h = h
 
 tail_byte : (b : ℕ) (more : List ℕ) (n : ℕ) (c t : Bool) → (is_alphanumeric b || (is_underscore b && c)) ≡ t → All (λ c. is_name_byte c ≡ true) (take n more)
     → All (λ c. is_name_byte c ≡ true) (take (if t then suc n else 0) (b ∷ more))

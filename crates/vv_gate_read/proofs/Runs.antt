@@ -5,10 +5,10 @@ use Rattle.vv_gate.specs.Whole.{IsWhole}
 use Rattle.vv_gate.specs.declared.token.Mark.{Mark}
 use Rattle.vv_gate.specs.declared.token.Mark.TheVariants as mk
 use Rattle.vv_gate.specs.declared.tree.Operator.{Operator}
-use Rattle.vv_gate_read.specs.Symbols.{Symbol, name, mark, finish}
+use Rattle.vv_gate_lex.specs.Symbols.{Symbol, name, mark, finish}
 use Rattle.vv_gate_read.specs.Grammar.{joined, spelled_group, spelled_term, operator_mark, spelled_assignment, spelled_context, spelled_entity, spelled_architecture}
 use Rattle.vv_gate_read.specs.Machine.{Context, Ports, Chain, Place, at_logic, after_logic, at_numeric, at_entity, at_port, after_port, at_mode, after_group, at_architecture, at_of, at_statement, at_term, at_operand, after_term, at_finish, done, State, when, wait, step, operator_or_and}
-use Rattle.vv_gate_read.proofs.Marks.{is_mark-same}
+use Rattle.vv_gate_lex.proofs.Marks.{is_mark-same}
 
 abbrev pub at : Place → State
 at p = record { expected = []; place = p }

@@ -6,7 +6,7 @@ use Rattle.vv_gate.specs.declared.token.Mark.{Mark}
 use Rattle.vv_gate.specs.declared.token.Mark.TheVariants as mk
 use Rattle.vv_gate.specs.declared.tree.Operator.{Operator}
 use Rattle.vv_gate.specs.declared.tree.Operator.TheVariants as operator
-use Rattle.vv_gate_read.specs.Symbols.{Symbol, name, mark, finish, Token}
+use Rattle.vv_gate_lex.specs.Symbols.{Symbol, name, mark, finish, Token}
 
 -- one or more parts with a mark between them
 abbrev pub joined : {A : Type 0} → Mark → (A → List Symbol) → List A → List Symbol

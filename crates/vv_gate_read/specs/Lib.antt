@@ -1,9 +1,5 @@
-pub mod Symbols
-pub mod Lexical
 pub mod Grammar
 pub mod Machine
 pub mod Places
 pub mod Ends
 pub mod Reading
-pub mod Cut
-pub mod Words

@@ -5,7 +5,7 @@ use Rattle.vv_gate.specs.declared.token.Mark.{Mark}
 use Rattle.vv_gate.specs.declared.token.Mark.TheVariants as mk
 use Rattle.vv_gate.specs.declared.tree.Operator.{Operator}
 use Rattle.vv_gate.specs.declared.tree.Operator.TheVariants as operator
-use Rattle.vv_gate_read.specs.Symbols.{Symbol, name, mark, other, finish, is_mark, Token}
+use Rattle.vv_gate_lex.specs.Symbols.{Symbol, name, mark, other, finish, is_mark, Token}
 
 -- the context clause
 pub record Context : Type 0 where

@@ -1,18 +1,13 @@
 -- What reading a file answers.
-use Rattle.std.specs.Prelude.{◌≡◌, ◌≤◌, ℕ, List, Result, Ok, Err, length}
+use Rattle.std.specs.Prelude.{◌≡◌, ◌≤◌, ℕ, List, Result, Ok, Err}
 use Rattle.vv_gate.specs.Tree as tree
 use Rattle.vv_gate.specs.View.{file_of}
 use Rattle.vv_gate.specs.Whole.{IsPlaced}
 use Rattle.vv_gate.specs.declared.tree.GateFile.{GateFile}
-use Rattle.vv_gate_read.specs.Symbols.{Token}
-use Rattle.vv_gate_read.specs.Lexical.{tokens}
+use Rattle.vv_gate_lex.specs.Symbols.{Token}
 use Rattle.vv_gate_read.specs.Grammar.{IsTextOf, IsMisplaced}
 use Rattle.vv_gate_read.specs.declared.reader.ReadFault.{ReadFault}
 use Rattle.vv_gate_read.specs.declared.reader.ReadFault.TheVariants.{Misplaced, Memory}
-
--- the tokens of a file whose letters are folded to lower case
-abbrev pub tokens_of : List ℕ → List Token
-tokens_of bytes = tokens (length bytes) bytes
 
 -- the file is a text of the grammar: it has this tree, and no other one
 pub record IsReading (f : tree.GateFile) (ts : List Token) : Type 0 where

@@ -2,18 +2,19 @@
 
 ghost use Rattle.std.specs.Prelude.{◌≡◌, ℕ, [], ◌∷◌, length, option_map, MatchResult, IfErr};
 ghost use Rattle.vv_gate.specs.View.{ident_of, group_of, file_of, term_of, assignment_of};
-ghost use Rattle.vv_gate_read.specs.Symbols.{token_of, is_mark};
+ghost use Rattle.vv_gate_lex.specs.Symbols.{token_of, is_mark};
 ghost use Rattle.vv_gate_read.specs.Machine as machine;
 ghost use Rattle.vv_gate_read.specs.Places.{Takes, context_of, read_ports, chain_of, place_of, state_of};
 ghost use Rattle.vv_gate_read.specs.Ends.{Ends};
-ghost use Rattle.vv_gate_read.specs.Reading.{tokens_of, IsAnswer, IsWithin};
-ghost use Rattle.vv_gate_read.specs.Lexical.{tokens};
+ghost use Rattle.vv_gate_read.specs.Reading.{IsAnswer, IsWithin};
+ghost use Rattle.vv_gate_lex.specs.Lexical.{tokens_of};
+ghost use Rattle.vv_gate_lex.specs.Lexical.{tokens};
 
-use crate::lexer::next;
 use crate::places::{Chain, Context, Place, Ports, State, Stop};
 use std::alloc::Global;
 use vv_gate::token::{Mark, Symbol, Token};
 use vv_gate::tree::{Assignment, GateFile, Group, Ident, Operand, Operator, Term};
+use vv_gate_lex::lexer::next;
 
 const START: [Mark; 6] = [
     Mark::Library,

@@ -5,10 +5,11 @@ use Rattle.std.proofs.lemmas.List.{map-append}
 use Rattle.vv_base.specs.declared.rules.Rule.TheVariants.{L1, Y1, N1}
 use Rattle.vv_gate.specs.Tree.{GateFile}
 use Rattle.vv_gate.specs.Conditions.{IsSound, IsFirstBroken}
-use Rattle.vv_gate_read.specs.Symbols.{Symbol, Token}
+use Rattle.vv_gate_lex.specs.Symbols.{Symbol, Token}
 use Rattle.vv_gate_read.specs.Grammar.{IsTextOf, IsViable, IsMisplaced}
 use Rattle.vv_gate_read.specs.Machine.{Outcome, Reads, Stops}
-use Rattle.vv_gate_read.specs.Reading.{tokens_of, IsReading}
+use Rattle.vv_gate_read.specs.Reading.{IsReading}
+use Rattle.vv_gate_lex.specs.Lexical.{tokens_of}
 use Rattle.vv_gate_read.proofs.Order.{tokens-ordered}
 use Rattle.vv_gate_read.proofs.Judged.{read_well, stops_well}
 use Rattle.vv_gate_check.specs.Places.{first, broken_places}

@@ -3,9 +3,10 @@ use Rattle.std.proofs.Common.{◌≡◌, ℕ, suc, ◌≤◌, List, [], ◌∷�
 use Rattle.std.proofs.lemmas.List.Elements.{All-nil, All-cons, All-head, All-tail, All-map, All-contains}
 use Rattle.vv_gate.specs.Tree.{Ident, GateFile}
 use Rattle.vv_gate.specs.Whole.{idents_of}
-use Rattle.vv_gate_read.specs.Symbols.{Symbol, name, mark, other, finish, Token}
-use Rattle.vv_gate_read.specs.Lexical.{tokens}
-use Rattle.vv_gate_read.specs.Reading.{tokens_of, IsReading}
+use Rattle.vv_gate_lex.specs.Symbols.{Symbol, name, mark, other, finish, Token}
+use Rattle.vv_gate_lex.specs.Lexical.{tokens}
+use Rattle.vv_gate_read.specs.Reading.{IsReading}
+use Rattle.vv_gate_lex.specs.Lexical.{tokens_of}
 use Rattle.vv_gate_read.proofs.Order.{NameAt, HasName, names_of, names_of-spelled, tokens-ordered, all_within}
 use Rattle.vv_gate.specs.Conditions.{IsSound}
 use Rattle.vv_gate_text.specs.Text.{text_of}

@@ -7,7 +7,8 @@ use Rattle.vv_gate.specs.Tree.{GateFile}
 use Rattle.vv_gate.specs.Conditions.{IsSound, IsFirstBroken}
 use Rattle.vv_gate_read.specs.Machine.{Outcome, Reads, Stops, drive, start}
 use Rattle.vv_gate_read.specs.Grammar.{IsMisplaced}
-use Rattle.vv_gate_read.specs.Reading.{tokens_of, IsReading}
+use Rattle.vv_gate_read.specs.Reading.{IsReading}
+use Rattle.vv_gate_lex.specs.Lexical.{tokens_of}
 use Rattle.vv_gate_check.specs.Places.{first, broken_places}
 use Rattle.vv_gate_text.specs.Text.{text_of}
 use Rattle.vv_gate_text.specs.Map.{map_of}

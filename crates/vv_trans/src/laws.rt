@@ -3,7 +3,8 @@
 ghost use Rattle.std.specs.Prelude.{◌≡◌, ◌≤◌, None, Some, length};
 ghost use Rattle.vv_gate.specs.Conditions.{IsSound};
 ghost use Rattle.vv_gate.specs.Tree.{GateFile};
-ghost use Rattle.vv_gate_read.specs.Reading.{tokens_of, IsReading};
+ghost use Rattle.vv_gate_read.specs.Reading.{IsReading};
+ghost use Rattle.vv_gate_lex.specs.Lexical.{tokens_of};
 ghost use Rattle.vv_trans.specs.Translation.{folded, report, Report, IsReport, IsAccepted};
 
 /// A file is reported exactly where a rule is broken, by that rule and at its place; else it is a text of the grammar that breaks none.

@@ -1,8 +1,8 @@
 use Rattle.std.proofs.Common.{◌≡◌, length, None, Some, Option, ap, ◌∙◌, arith}
 use Rattle.vv_gate.specs.Tree.{GateFile}
 use Rattle.vv_gate.specs.View.{file_of}
-use Rattle.vv_gate_read.specs.Symbols.{token_of}
-use Rattle.vv_gate_read.specs.Lexical.{tokens}
+use Rattle.vv_gate_lex.specs.Symbols.{token_of}
+use Rattle.vv_gate_lex.specs.Lexical.{tokens}
 use Rattle.vv_gate_read.specs.Machine.{drive, start, step, ending}
 use Rattle.vv_gate_read.specs.Places.{state_of}
 use Rattle.vv_gate_read.proofs.Drives.{takes_on, stops_on, ends_on, closed}

@@ -1,5 +1,5 @@
 use Rattle.std.proofs.Common.{◌≡◌, ◌≤◌, length}
-use Rattle.vv_gate_read.specs.Lexical.{tokens}
+use Rattle.vv_gate_lex.specs.Lexical.{tokens}
 use Rattle.vv_gate_read.specs.Machine.{drive, start}
 use Rattle.vv_gate_read.specs.Places.{state_of}
 use Rattle.vv_gate_read.proofs.reader.drive.Given as goal

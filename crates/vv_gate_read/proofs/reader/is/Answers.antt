@@ -1,5 +1,5 @@
-use Rattle.vv_gate_read.specs.Symbols.{is_mark}
-use Rattle.vv_gate_read.proofs.Marks.{tag_code}
+use Rattle.vv_gate_lex.specs.Symbols.{is_mark}
+use Rattle.vv_gate_lex.proofs.Marks.{tag_code}
 use Rattle.vv_gate_read.proofs.reader.is.Goals as goal
 
 pub returns-in-Name : goal.returns-in-Name

@@ -1,5 +1,5 @@
 use Rattle.std.proofs.Common.{◌≡◌}
-use Rattle.vv_gate_read.specs.Reading.{tokens_of}
+use Rattle.vv_gate_lex.specs.Lexical.{tokens_of}
 use Rattle.vv_gate_read.specs.Machine.{drive, start, Stops}
 use Rattle.vv_gate.specs.View.{file_of}
 use Rattle.vv_gate_read.proofs.Order.{tokens-ordered}

@@ -1,0 +1,5 @@
+pub mod Tokens
+pub mod Marks
+pub mod Names
+pub mod Cut
+pub mod Words

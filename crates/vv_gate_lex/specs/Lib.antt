@@ -1,0 +1,4 @@
+pub mod Symbols
+pub mod Lexical
+pub mod Cut
+pub mod Words
