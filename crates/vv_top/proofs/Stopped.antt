@@ -1,0 +1,124 @@
+-- What follows from why a translation stopped, and from what was printed of it.
+use Rattle.std.proofs.Common.{◌≡◌, ◌≢◌, ◌⊎◌, inl, inr, ℕ, List, Option, Some, IsSomeAnd, sym, ◌∙◌, subst, arith}
+use Rattle.std.specs.Prelude.{MatchOption}
+use Rattle.std.specs.Io.KnownBytes.{Appends}
+use Rattle.vv_base.specs.Outside.{Told, Rose}
+use Rattle.vv_trans.specs.Translation.{Report, report}
+use Rattle.vv_top.specs.declared.run.Stop.{Stop}
+use Rattle.vv_top.specs.declared.run.Stop.TheVariants.{ReadFault, OutputFault, MapFault, Refused, Memory}
+use Rattle.vv_top.specs.Lines.{Announced, Cut, memory_line, report_line}
+use Rattle.vv_top.specs.Run.{RuleBroken, OfBytes, Saved, SavedPart}
+use Rattle.vv_top.specs.Stops.{Means, line_of, status_of, report_of}
+use Rattle.vv_top.specs.Top.{IsRefused, IsReadFault, IsSaveFault, IsStopped, NoFault, Accepts, Refuses, Translates}
+use Rattle.vv_top.specs.Words.{Wanted}
+
+is_some_and : {X : Type 0} (o : Option X) (x : X) (Q : X → Type 0) → o ≡ Some x → Q x → IsSomeAnd o Q
+is_some_and o x Q e q = rw e q
+
+match_some : {X : Type 0} (o : Option X) (x : X) (N : Type 0) (Q : X → Type 0) → o ≡ Some x → Q x → MatchOption o N Q
+match_some o x N Q e q = rw e q
+
+-- a status that is neither 4 nor 5 is the line's own, and the whole line stands
+put_whole : (line : List ℕ) (status result : ℕ) (was is : Option (List ℕ)) (before now : ℕ) → Announced line status result was is before now → result ≢ 4 → result ≢ 5 → (result ≡ status) × Appends was is line
+put_whole line status result was is before now (inl (inl p)) not4 not5 = p
+put_whole line status result was is before now (inl (inr (inl p))) not4 not5 = absurd (not4 p.0)
+put_whole line status result was is before now (inl (inr (inr p))) not4 not5 = absurd (not5 p.0)
+put_whole line status result was is before now (inr (inl p)) not4 not5 = absurd (not5 p.0)
+put_whole line status result was is before now (inr (inr (inl p))) not4 not5 = absurd (not4 p.0)
+put_whole line status result was is before now (inr (inr (inr p))) not4 not5 = absurd (not5 p.0)
+
+-- at status 4 the whole line stands, or a put failed
+put_at_4 : (line : List ℕ) (status result : ℕ) (was is : Option (List ℕ)) (before now : ℕ) → Announced line status result was is before now → result ≡ 4 → ((status ≡ 4) × Appends was is line) ⊎ (Rose before now × (Cut was is line ⊎ Cut was is memory_line))
+put_at_4 line status result was is before now (inl (inl p)) at4 = inl (sym p.0 ∙ at4, p.1)
+put_at_4 line status result was is before now (inl (inr (inl p))) at4 = inr (p.1, inl p.2)
+put_at_4 line status result was is before now (inl (inr (inr p))) at4 = absurd (omega (arith, p.0, at4))
+put_at_4 line status result was is before now (inr (inl p)) at4 = absurd (omega (arith, p.0, at4))
+put_at_4 line status result was is before now (inr (inr (inl p))) at4 = inr (p.1, inr p.2)
+put_at_4 line status result was is before now (inr (inr (inr p))) at4 = absurd (omega (arith, p.0, at4))
+
+-- the bytes that break a rule are the file's, where these are told
+refused_of : (w : Wanted) (old new : List ℕ → Told) (bytes : List ℕ) (r : Report) (P : List ℕ → Type 0) → RuleBroken w old new bytes r → P (report_line w.file bytes r) → IsRefused w old new P
+refused_of w old new bytes r P m p = record {
+  same = m.same;
+  line = λ file told. subst (λ f. IsSomeAnd (report w.top f) (λ q. P (report_line w.file f q))) (sym (m.file file told)) (is_some_and (report w.top bytes) r (λ q. P (report_line w.file bytes q)) m.told p);
+}
+
+-- P of the line that tells why
+stopped_of : (w : Wanted) (old new : List ℕ → Told) (loads loaded saves saved : List ℕ → ℕ) (P : List ℕ → Type 0) (stop : Stop) → Means w old new loads loaded saves saved stop → P (line_of w stop) → IsStopped w old new loads loaded saves saved P
+stopped_of w old new loads loaded saves saved P ReadFault m p = inr (inl (record { failed = m; line = p }))
+stopped_of w old new loads loaded saves saved P OutputFault m p = inr (inr (inl (inl (record { failed = m; line = p }))))
+stopped_of w old new loads loaded saves saved P MapFault m p = inr (inr (inl (inr (record { failed = m; line = p }))))
+stopped_of w old new loads loaded saves saved P (Refused file refusal) m p = inl (refused_of w old new file.items (report_of refusal) P m p)
+stopped_of w old new loads loaded saves saved P Memory m p = inr (inr (inr p))
+
+read_of : (w : Wanted) (old new : List ℕ → Told) (loads loaded saves saved : List ℕ → ℕ) (P : List ℕ → Type 0) (stop : Stop) → Means w old new loads loaded saves saved stop → status_of stop ≡ 3 → P (line_of w stop) → IsReadFault w old new loads loaded P
+read_of w old new loads loaded saves saved P ReadFault m e p = record { failed = m; line = p }
+read_of w old new loads loaded saves saved P OutputFault m e p = absurd (omega (arith, e))
+read_of w old new loads loaded saves saved P MapFault m e p = absurd (omega (arith, e))
+read_of w old new loads loaded saves saved P (Refused file refusal) m e p = absurd (omega (arith, e))
+read_of w old new loads loaded saves saved P Memory m e p = absurd (omega (arith, e))
+
+save_of : (w : Wanted) (old new : List ℕ → Told) (loads loaded saves saved : List ℕ → ℕ) (P : List ℕ → Type 0) (stop : Stop) → Means w old new loads loaded saves saved stop → status_of stop ≡ 4 → P (line_of w stop) → IsSaveFault w old new saves saved P
+save_of w old new loads loaded saves saved P ReadFault m e p = absurd (omega (arith, e))
+save_of w old new loads loaded saves saved P OutputFault m e p = inl (record { failed = m; line = p })
+save_of w old new loads loaded saves saved P MapFault m e p = inr (record { failed = m; line = p })
+save_of w old new loads loaded saves saved P (Refused file refusal) m e p = absurd (omega (arith, e))
+save_of w old new loads loaded saves saved P Memory m e p = absurd (omega (arith, e))
+
+-- status 3
+pub read_told : (w : Wanted) (old new : List ℕ → Told) (loads loaded saves saved : List ℕ → ℕ) (stop : Stop) (result : ℕ) (was is : Option (List ℕ)) (before now : ℕ) → Means w old new loads loaded saves saved stop → Announced (line_of w stop) (status_of stop) result was is before now → result ≡ 3 → IsReadFault w old new loads loaded (Appends was is)
+read_told w old new loads loaded saves saved stop result was is before now m a at3 =
+    let put = put_whole (line_of w stop) (status_of stop) result was is before now a (omega (arith, at3)) (omega (arith, at3)) in
+    read_of w old new loads loaded saves saved (Appends was is) stop m (sym put.0 ∙ at3) put.1
+
+-- status 4
+pub fault_told : (w : Wanted) (old new : List ℕ → Told) (loads loaded saves saved : List ℕ → ℕ) (stop : Stop) (result : ℕ) (was is : Option (List ℕ)) (before now : ℕ) → Means w old new loads loaded saves saved stop → Announced (line_of w stop) (status_of stop) result was is before now → result ≡ 4 → IsSaveFault w old new saves saved (Appends was is) ⊎ (Rose before now × IsStopped w old new loads loaded saves saved (Cut was is))
+fault_told w old new loads loaded saves saved stop result was is before now m a at4 =
+    elim (put_at_4 (line_of w stop) (status_of stop) result was is before now a at4) [
+      | inl p ↦ inl (save_of w old new loads loaded saves saved (Appends was is) stop m p.0 p.1)
+      | inr p ↦ inr (
+        p.0,
+        elim p.1 [
+          | inl cut ↦ stopped_of w old new loads loaded saves saved (Cut was is) stop m cut
+          | inr cut ↦ inr (inr (inr cut))
+        ],
+      )
+    ]
+
+-- where no save failed, nothing or OUT alone is saved
+pub part_of : (w : Wanted) (old new : List ℕ → Told) (saves saved : List ℕ → ℕ) → Saved w old new saves saved → (¬ Rose (saves w.output) (saved w.output)) → (¬ Rose (saves w.map) (saved w.map)) → SavedPart w old new
+part_of w old new saves saved (inl all) output map = inl all
+part_of w old new saves saved (inr (inl one)) output map = inr one
+part_of w old new saves saved (inr (inr (inl failed))) output map = absurd (output failed.rose)
+part_of w old new saves saved (inr (inr (inr failed))) output map = absurd (map failed.rose)
+
+-- with no fault no save failed
+no_save_fault : (w : Wanted) (old new : List ℕ → Told) (loads loaded saves saved : List ℕ → ℕ) (before now : ℕ) (P : List ℕ → Type 0) → NoFault w loads loaded saves saved before now → ¬ IsSaveFault w old new saves saved P
+no_save_fault w old new loads loaded saves saved before now P none (inl fault) = none.output fault.failed.rose
+no_save_fault w old new loads loaded saves saved before now P none (inr fault) = none.map fault.failed.rose
+
+-- with no fault the status is not 4
+not_4 : (w : Wanted) (old new : List ℕ → Told) (loads loaded saves saved : List ℕ → ℕ) (stop : Stop) (result : ℕ) (was is : Option (List ℕ)) (before now : ℕ) → Means w old new loads loaded saves saved stop → Announced (line_of w stop) (status_of stop) result was is before now → NoFault w loads loaded saves saved before now → result ≢ 4
+not_4 w old new loads loaded saves saved stop result was is before now m a none at4 =
+    elim (fault_told w old new loads loaded saves saved stop result was is before now m a at4) [
+      | inl fault ↦ no_save_fault w old new loads loaded saves saved before now (Appends was is) none fault
+      | inr p ↦ none.put p.0
+    ]
+
+-- with no fault a stop is a refusal, and the line is told
+translates_of : (w : Wanted) (old new : List ℕ → Told) (loads loaded saves saved : List ℕ → ℕ) (stop : Stop) (result : ℕ) (was is : Option (List ℕ)) (before now : ℕ) → Means w old new loads loaded saves saved stop → result ≡ status_of stop → Appends was is (line_of w stop) → NoFault w loads loaded saves saved before now → result ≢ 5 → OfBytes (old w.file) (λ file. Translates w file result old new was is)
+translates_of w old new loads loaded saves saved ReadFault result was is before now m e p none not5 = absurd (none.load m.rose)
+translates_of w old new loads loaded saves saved OutputFault result was is before now m e p none not5 = absurd (none.output m.rose)
+translates_of w old new loads loaded saves saved MapFault result was is before now m e p none not5 = absurd (none.map m.rose)
+translates_of w old new loads loaded saves saved (Refused file refusal) result was is before now m e p none not5 =
+    let r = report_of refusal in
+    λ told_file told. subst (λ f. Translates w f result old new was is) (sym (m.file told_file told))
+    (match_some (report w.top file.items) r (Accepts w file.items result old new was is) (λ q. Refuses w file.items q result old new was is) m.told (record { answer = e; same = m.same; line = p }))
+translates_of w old new loads loaded saves saved Memory result was is before now m e p none not5 = absurd (not5 e)
+
+-- with no fault and no want of memory the file's bytes settle what a stop comes to
+pub headline_told : (w : Wanted) (old new : List ℕ → Told) (loads loaded saves saved : List ℕ → ℕ) (stop : Stop) (result : ℕ) (was is : Option (List ℕ)) (before now : ℕ) → Means w old new loads loaded saves saved stop → Announced (line_of w stop) (status_of stop) result was is before now → NoFault w loads loaded saves saved before now → result ≢ 5 → OfBytes (old w.file) (λ file. Translates w file result old new was is)
+headline_told w old new loads loaded saves saved stop result was is before now m a none not5 =
+    let not4 = not_4 w old new loads loaded saves saved stop result was is before now m a none in
+    let put = put_whole (line_of w stop) (status_of stop) result was is before now a not4 not5 in
+    translates_of w old new loads loaded saves saved stop result was is before now m put.0 put.1 none not5

@@ -1,0 +1,10 @@
+//! The translator's top call, which does all that the program does.
+#![tactic(auto)]
+
+pub mod lines;
+pub mod run;
+pub mod tell;
+#[cfg(test)]
+mod tests;
+pub mod top;
+pub mod words;
