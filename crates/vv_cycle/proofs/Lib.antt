@@ -1,0 +1,6 @@
+pub mod Orders
+pub mod Bound
+pub mod Held
+pub mod Runs
+pub mod Instances
+pub mod Complete

@@ -1,0 +1,13 @@
+pub mod Potential
+pub mod Descent
+pub mod Unique
+pub mod Settled
+pub mod Acyclic
+pub mod SmallDesigns
+pub mod RowStarts
+pub mod Operators
+pub mod Reading
+pub mod Runs
+pub mod RowResults
+pub mod OneRowEnd
+pub mod RegisterRow

@@ -1,0 +1,10 @@
+pub mod Items
+pub mod Steps
+pub mod Orders
+pub mod Equations
+pub mod Examples
+pub mod Rows
+pub mod Values
+pub mod Expressions
+pub mod Statements
+pub mod RowEnds
