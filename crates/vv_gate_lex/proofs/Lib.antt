@@ -3,3 +3,4 @@ pub mod Marks
 pub mod Names
 pub mod Cut
 pub mod Words
+pub mod Lengths

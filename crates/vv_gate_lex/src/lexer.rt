@@ -1,6 +1,6 @@
 //! From bytes to tokens. The letters of the bytes are folded to lower case.
 
-ghost use Rattle.std.specs.Prelude.{◌≡◌, ◌==◌, ℕ, ◌≤◌, ◌<◌, ◌-◌, ◌∷◌, [], length, map, MatchOption, true};
+ghost use Rattle.std.specs.Prelude.{List, ◌≡◌, ◌==◌, ℕ, ◌≤◌, ◌<◌, ◌-◌, ◌∷◌, [], length, map, MatchOption, true};
 ghost use Rattle.vv_gate.specs.Whole.{is_letter, is_digit};
 ghost use Rattle.vv_gate_lex.specs.Lexical as spec;
 ghost use Rattle.vv_gate_lex.specs.Symbols.{symbol_of, token_of};
@@ -107,10 +107,31 @@ fn lookup(table: &[(&[u8], Mark)], text: &[u8]) -> Option<Mark>
     None
 }
 
+/// The reserved words of a length, among which a text of that length is looked up. A longer table does no harm.
+fn words_of(size: usize) -> &'static [(&'static [u8], Mark)]
+    ensures { (text : List ℕ) → length text ≡ size → spec.lookup (map (λ k. (k.0.now, k.1)) result.now) text ≡ spec.keyword text }
+{
+    match size {
+        1 => &KEYWORDS[..0],
+        2 => &KEYWORDS[0..7],
+        3 => &KEYWORDS[7..28],
+        4 => &KEYWORDS[28..47],
+        5 => &KEYWORDS[47..60],
+        6 => &KEYWORDS[60..74],
+        7 => &KEYWORDS[74..82],
+        8 => &KEYWORDS[82..89],
+        9 => &KEYWORDS[89..95],
+        10 => &KEYWORDS[95..97],
+        12 => &KEYWORDS[97..98],
+        13 => &KEYWORDS[98..99],
+        _ => &KEYWORDS,
+    }
+}
+
 fn keyword(text: &[u8]) -> Option<Mark>
     ensures { result ≡ spec.keyword text.now }
 {
-    lookup(&KEYWORDS, text)
+    lookup(words_of(text.len()), text)
 }
 
 fn is_bit(bytes: &[u8]) -> bool

@@ -1,0 +1,4 @@
+pub mod Laws
+pub mod Flattened
+pub mod Ends
+pub mod AndNot
