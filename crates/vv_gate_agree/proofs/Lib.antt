@@ -1,0 +1,7 @@
+pub mod Operators
+pub mod Names
+pub mod Values
+pub mod Driven
+pub mod Rows
+pub mod Laws
+pub mod Instances
