@@ -5,3 +5,4 @@ pub mod Driven
 pub mod Rows
 pub mod Laws
 pub mod Instances
+pub mod Meaning

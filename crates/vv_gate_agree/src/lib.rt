@@ -2,6 +2,7 @@
 //!
 //! `specs/Agreement` says when values and bits agree, and which Verilog row a VHDL row is.
 //! `specs/Runs` has the runs of the Verilog design over rows, and runs of both sides that agree.
+//! `specs/Meaning` has what it means that a flat design keeps the meaning of a file.
 //!
 //! Each function here is a law: its body is empty, and its contract is what is proved.
 #![tactic(auto)]
@@ -25,6 +26,7 @@ ghost use Rattle.vv_gate_vhdl.specs.Design.{net_of, is_port, gate_design, is_ass
 ghost use Rattle.vv_gate_verilog.specs.Events.{start_of, row_of, CanTake, after, bit_value, expressions_for, IsInput, IsOutput, InputsOnly, AtRest};
 ghost use Rattle.vv_gate_text.specs.Made.{made_port, module_of};
 ghost use Rattle.vv_gate_agree.specs.Agreement.{InputsAgree, Agrees, row4};
+ghost use Rattle.vv_gate_agree.specs.Meaning.{MeaningKept};
 ghost use Rattle.vv_gate_agree.specs.Runs.{rows4, VerilogRun, verilog_end, AgreeIn, AgreeAfter};
 
 /// The objects of the flat design are the ports, in their order: an in port is an input of it, and
@@ -76,4 +78,10 @@ pub fn text_agrees()
 /// There are a VHDL run over all lawful rows and a Verilog run over their Verilog rows.
 pub fn text_runs()
     ensures { (top name : List ℕ) (f : GateFile) (flat : Flat) → IsSound top f → FlatDesign (module_of f ∷ []) name flat → (rows : List (List Entry)) → LawfulRows (gate_design f) rows → VhdlRun (gate_design f) rows × VerilogRun flat (rows4 f rows) }
+{}
+
+/// The flat design of a sound file's text keeps the file's meaning: wherever power-on or a row
+/// begins, every order on both sides ends, and in all orders with agreement on every port.
+pub fn text_keeps_meaning()
+    ensures { (top name : List ℕ) (f : GateFile) (flat : Flat) → IsSound top f → FlatDesign (module_of f ∷ []) name flat → MeaningKept f flat }
 {}

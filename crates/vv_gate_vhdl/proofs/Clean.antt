@@ -20,12 +20,12 @@ clean_get [] i q h e = absurd (none_eq q e)
 clean_get (x ∷ parts) zero q h e = ap (λ (o : Part). o.clash) (sym (some_eq x q e)) ∙ (or_parts x.clash (any_clash parts) h).0
 clean_get (x ∷ parts) (suc i) q h e = clean_get parts i q (or_parts x.clash (any_clash parts) h).1 e
 
-clean_readied : (ps : List Process) (events : List Bool) (parts : List Part) → any_clash (readied ps events parts) ≡ any_clash parts
+pub clean_readied : (ps : List Process) (events : List Bool) (parts : List Part) → any_clash (readied ps events parts) ≡ any_clash parts
 clean_readied [] events parts = refl
 clean_readied (p ∷ ps) events [] = refl
 clean_readied (p ∷ ps) events (x ∷ parts) = ap (λ b. x.clash || b) (clean_readied ps events parts)
 
-clean_first : (ps : List Process) → any_clash (first_parts ps) ≡ false
+pub clean_first : (ps : List Process) → any_clash (first_parts ps) ≡ false
 clean_first [] = refl
 clean_first (p ∷ ps) = clean_first ps
 

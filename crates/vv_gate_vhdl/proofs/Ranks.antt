@@ -129,7 +129,7 @@ gate_ranked f sound = gate_ranks f (InRun (gate_design f)) sound
 pub gate_run_ends : (f : GateFile) (rows : List (List Entry)) → IsSoundGate f → LawfulRows (gate_design f) rows → OrderedRun (gate_design f) rows
 gate_run_ends f rows sound lawful = ordered_run (gate_design f) (gate_rank f) 2 none_held (gate_give f) rows (gate_ranked f sound) lawful
 
-process_count : (ports : List Port) (gs : List Assignment) → length (map (gate_process ports) gs) ≡ length gs
+pub process_count : (ports : List Port) (gs : List Assignment) → length (map (gate_process ports) gs) ≡ length gs
 process_count ports [] = refl
 process_count ports (a ∷ gs) = ap suc (process_count ports gs)
 

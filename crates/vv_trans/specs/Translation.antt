@@ -16,6 +16,7 @@ use Rattle.vv_gate_text.specs.Made.{module_of}
 use Rattle.vv_gate_text.specs.Names.{mangled}
 use Rattle.vv_vast.specs.Grammar.{VerilogText}
 use Rattle.vv_vast.specs.Flat.{Flat, FlatDesign}
+use Rattle.vv_gate_agree.specs.Meaning.{MeaningKept}
 
 -- letter case is folded
 abbrev pub folded : List ℕ → List ℕ
@@ -55,7 +56,7 @@ unfoldable pub written : List ℕ → Written
 written file = written_of (reading_of file)
 
 -- Text and map stand for the file: it has one tree, which breaks no condition, the text is a text of the tree's module, which has a flat
--- design, and the map has exactly the tree's lines.
+-- design that keeps the tree's meaning, and the map has exactly the tree's lines.
 pub record IsTranslation (top file text lines : List ℕ) : Type 0 where
   pub tree : GateFile
   pub reading : IsReading tree (tokens_of (folded file))
@@ -64,6 +65,7 @@ pub record IsTranslation (top file text lines : List ℕ) : Type 0 where
   pub verilog : VerilogText (module_of tree ∷ []) text
   pub flat : Flat
   pub design : FlatDesign (module_of tree ∷ []) (mangled tree.entity.text) flat
+  pub meaning : MeaningKept tree flat
   pub map_is : lines ≡ map_of tree
 
 -- the same, as one fact that callers hand on
