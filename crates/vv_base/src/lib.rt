@@ -4,6 +4,7 @@
 pub mod fault;
 pub mod files;
 pub mod memory;
+pub mod names;
 pub mod rules;
 pub mod shelf;
 pub mod sink;

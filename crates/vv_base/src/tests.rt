@@ -1,5 +1,6 @@
 use crate::fault::{Fault, Memory, Name, Refusal, Rule, Span, cannot_come};
 use crate::memory::{MemShelf, MemSink};
+use crate::names::Names;
 use crate::shelf::{LoadFault, SaveFault, Shelf};
 use crate::sink::{PutFault, Sink};
 use crate::text::{ByteList, Text};
@@ -137,5 +138,27 @@ fn faults(rt: HostRuntime) -> Result<(), Fail> {
         memory.as_str(),
         "out of memory, out of memory, out of memory, out of memory"
     );
+    Ok(())
+}
+
+#[test]
+fn names_by_first_sight(rt: HostRuntime) -> Result<(), Fail> {
+    let mut names = Names::new(rt.alloc());
+    let rows: [(&[u8], u32); 6] = [
+        (b"clk", 0),
+        (b"d", 1),
+        (b"CLK", 0),
+        (b"Clk_2", 2),
+        (b"D", 1),
+        (b"clk_2", 2),
+    ];
+    for (text, number) in rows {
+        assert!(rt; names.len() < 4_294_967_295);
+        assert_eq!(rt; names.intern(text), Ok(Name(number)));
+    }
+    assert_eq!(rt; names.len(), 3);
+    assert_eq!(rt; names.text(Name(0)), Some(&b"clk"[..]));
+    assert_eq!(rt; names.text(Name(2)), Some(&b"clk_2"[..]));
+    assert_eq!(rt; names.text(Name(3)), None);
     Ok(())
 }
