@@ -153,7 +153,7 @@ fn write_idles(
 fn write_assignments(out: &mut Vec<u8>, assignments: &[Assignment<'_>]) -> Result<(), AllocError>
     ensures { OnOk result (out.new.items ≡ out.old.items ++ flat_map written_item (map made_assignment (map assignment_of assignments.now))) }
 {
-    for assignment in assignments {
+    'written: for assignment in assignments {
         write_assignment(out, assignment)?;
     }
     Ok(())
