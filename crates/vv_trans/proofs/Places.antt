@@ -16,6 +16,7 @@ use Rattle.vv_gate_text.specs.Names.{mangled}
 use Rattle.vv_vast.specs.Grammar.{VerilogText}
 use Rattle.vv_vast.specs.Flat.{Flat, FlatDesign}
 use Rattle.vv_gate_agree.proofs.Meaning.{text_keeps_meaning}
+use Rattle.vv_vast.proofs.OneTree.{one_text}
 use Rattle.vv_trans.specs.Translation.{folded, Stands}
 use Rattle.vv_gate_check.specs.Places.{first, broken_places}
 use Rattle.vv_gate_check.proofs.Law.{first_among}
@@ -62,6 +63,6 @@ stands top file word bytes text lines f b n reading sound text_is verilog flat m
       verilog = verilog;
       flat = design.0;
       design = design.1;
-      meaning = text_keeps_meaning word (mangled f.entity.text) f design.0 sound design.1;
+      meaning = λ modules other is_text is_design. text_keeps_meaning word (mangled f.entity.text) f other sound (subst (λ ms. FlatDesign ms (mangled f.entity.text) other) (one_text modules (module_of f ∷ []) text is_text verilog) is_design);
       map_is = map_is;
     }

@@ -16,6 +16,7 @@ use Rattle.vv_gate_text.specs.Made.{module_of}
 use Rattle.vv_gate_text.specs.Names.{mangled}
 use Rattle.vv_vast.specs.Grammar.{VerilogText}
 use Rattle.vv_vast.specs.Flat.{Flat, FlatDesign}
+use Rattle.vv_vast.specs.Tree.{Module}
 use Rattle.vv_gate_agree.specs.Meaning.{MeaningKept}
 
 -- letter case is folded
@@ -56,7 +57,7 @@ unfoldable pub written : List ℕ → Written
 written file = written_of (reading_of file)
 
 -- Text and map stand for the file: it has one tree, which breaks no condition, the text is a text of the tree's module, which has a flat
--- design that keeps the tree's meaning, and the map has exactly the tree's lines.
+-- design, and whatever modules and flat design the text is read as, that design keeps the tree's meaning. The map has exactly the tree's lines.
 pub record IsTranslation (top file text lines : List ℕ) : Type 0 where
   pub tree : GateFile
   pub reading : IsReading tree (tokens_of (folded file))
@@ -65,7 +66,7 @@ pub record IsTranslation (top file text lines : List ℕ) : Type 0 where
   pub verilog : VerilogText (module_of tree ∷ []) text
   pub flat : Flat
   pub design : FlatDesign (module_of tree ∷ []) (mangled tree.entity.text) flat
-  pub meaning : MeaningKept tree flat
+  pub meaning : (modules : List Module) (other : Flat) → VerilogText modules text → FlatDesign modules (mangled tree.entity.text) other → MeaningKept tree other
   pub map_is : lines ≡ map_of tree
 
 -- the same, as one fact that callers hand on

@@ -7,15 +7,15 @@ use Rattle.std.specs.Prelude.{not, ◌&&◌, ◌||◌, ◌==◌}
 use Rattle.std.specs.Str.{bytes_eq}
 use Rattle.vv_vast.specs.Tokens.{is_space, is_digit, is_letter, is_run_byte, signs, is_sign, IsToken, run, sized, sign, IsCut}
 
-and-left : (a b : Bool) → (a && b) ≡ true → a ≡ true
+pub and-left : (a b : Bool) → (a && b) ≡ true → a ≡ true
 and-left true b e = refl
 and-left false b e = cc
 
-and-right : (a b : Bool) → (a && b) ≡ true → b ≡ true
+pub and-right : (a b : Bool) → (a && b) ≡ true → b ≡ true
 and-right true b e = e
 and-right false b e = cc
 
-or-cases : (a b : Bool) (P : Type 0) → (a || b) ≡ true → (a ≡ true → P) → (b ≡ true → P) → P
+pub or-cases : (a b : Bool) (P : Type 0) → (a || b) ≡ true → (a ≡ true → P) → (b ≡ true → P) → P
 or-cases true b P e f g = f refl
 or-cases false b P e f g = g e
 
@@ -43,7 +43,7 @@ begins_word (b ∷ more) = is_run_byte b
 part-of_run : (b : ℕ) → is_run_byte b ≡ true → is_part b ≡ true
 part-of_run b e = ap (λ r. r || b == 39) e
 
-digit-is_run : (b : ℕ) → is_digit b ≡ true → is_run_byte b ≡ true
+pub digit-is_run : (b : ℕ) → is_digit b ≡ true → is_run_byte b ≡ true
 digit-is_run b e = either (is_letter b) (is_digit b) _ e
   where
     either : (l d o : Bool) → d ≡ true → (l || (d || o)) ≡ true
