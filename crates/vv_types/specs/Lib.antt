@@ -1,0 +1,4 @@
+pub mod Number
+pub mod Prefix
+pub mod Subtype
+pub mod Codec
