@@ -1,5 +1,6 @@
 -- What contracts see of a reader's place.
 use Rattle.std.specs.Prelude.{◌≡◌, map, option_map, Option, Some, None, Result, Ok, Err}
+use Rattle.std.specs.Global.{Box}
 use Rattle.vv_gate.specs.View.{ident_of, group_of, term_of, file_of}
 use Rattle.vv_gate_read.specs.Machine as machine
 use Rattle.vv_gate_read.specs.declared.places.Context.{Context}
@@ -14,16 +15,16 @@ use Rattle.vv_gate_read.specs.declared.places.Stop.TheVariants.{Misplaced, Memor
 abbrev pub context_of : Context → machine.Context
 context_of c = record { logic = ident_of c.logic; numeric = option_map ident_of c.numeric }
 
-abbrev pub read_ports : Ports → machine.Ports
+abbrev pub read_ports : Box Ports → machine.Ports
 read_ports p = record {
-  context = context_of p.context;
-  entity = ident_of p.entity;
-  groups = map group_of p.groups.items;
-  idents = map ident_of p.idents.items;
+  context = context_of p.value.context;
+  entity = ident_of p.value.entity;
+  groups = map group_of p.value.groups.items;
+  idents = map ident_of p.value.idents.items;
 }
 
 abbrev pub chain_of : Chain → machine.Chain
-chain_of c = record { file = file_of c.file; target = ident_of c.target; operator = c.operator; terms = map term_of c.terms.items }
+chain_of c = record { file = file_of c.file.value; target = ident_of c.target; operator = c.operator; terms = map term_of c.terms.items }
 
 abbrev pub place_of : Place → machine.Place
 place_of place.Logic = machine.at_logic
@@ -36,11 +37,11 @@ place_of (place.Mode p i) = machine.at_mode (read_ports p) (ident_of i)
 place_of (place.AfterGroup p g) = machine.after_group (read_ports p) (group_of g)
 place_of (place.Architecture p) = machine.at_architecture (read_ports p)
 place_of (place.Of p i) = machine.at_of (read_ports p) (ident_of i)
-place_of (place.Statement f) = machine.at_statement (file_of f)
+place_of (place.Statement f) = machine.at_statement (file_of f.value)
 place_of (place.Term c) = machine.at_term (chain_of c)
 place_of (place.Operand c) = machine.at_operand (chain_of c)
 place_of (place.AfterTerm c t) = machine.after_term (chain_of c) (term_of t)
-place_of (place.Finish f) = machine.at_finish (file_of f)
+place_of (place.Finish f) = machine.at_finish (file_of f.value)
 
 abbrev pub state_of : State → machine.State
 state_of s = record { expected = s.expected.now; place = place_of s.place }

@@ -27,14 +27,14 @@ pub struct Ports<'a> {
 #[derive(Drop)]
 pub struct Chain<'a> {
     /// The file without this assignment.
-    pub file: GateFile<'a>,
+    pub file: Box<GateFile<'a>>,
     pub target: Ident<'a>,
     pub operator: Option<Operator>,
     /// The terms before this one.
     pub terms: Vec<Term<'a>>,
 }
 
-/// What is wanted next.
+/// What is wanted next. What is large is boxed, since a place is moved at each token.
 #[derive(Drop)]
 pub enum Place<'a> {
     /// `std_logic_1164`
@@ -46,19 +46,19 @@ pub enum Place<'a> {
     /// The entity's name.
     Entity(Context<'a>),
     /// A port's name.
-    Port(Ports<'a>),
+    Port(Box<Ports<'a>>),
     /// `,` or `:`
-    AfterPort(Ports<'a>, Ident<'a>),
+    AfterPort(Box<Ports<'a>>, Ident<'a>),
     /// `in` or `out`
-    Mode(Ports<'a>, Ident<'a>),
+    Mode(Box<Ports<'a>>, Ident<'a>),
     /// `;` or `)`
-    AfterGroup(Ports<'a>, Group<'a>),
+    AfterGroup(Box<Ports<'a>>, Group<'a>),
     /// The architecture's name.
-    Architecture(Ports<'a>),
+    Architecture(Box<Ports<'a>>),
     /// The name of the architecture's entity.
-    Of(Ports<'a>, Ident<'a>),
+    Of(Box<Ports<'a>>, Ident<'a>),
     /// A target or `end`
-    Statement(GateFile<'a>),
+    Statement(Box<GateFile<'a>>),
     /// `not` or an operand
     Term(Chain<'a>),
     /// An operand behind `not`
@@ -66,7 +66,7 @@ pub enum Place<'a> {
     /// An operator or `;`
     AfterTerm(Chain<'a>, Term<'a>),
     /// The end of the file.
-    Finish(GateFile<'a>),
+    Finish(Box<GateFile<'a>>),
 }
 
 /// A place, and the words and signs that have to stand before it.

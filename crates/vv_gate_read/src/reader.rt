@@ -12,6 +12,7 @@ ghost use Rattle.vv_gate_lex.specs.Lexical.{tokens};
 
 use crate::places::{Chain, Context, Place, Ports, State, Stop};
 use std::alloc::Global;
+use std::mem;
 use vv_gate::token::{Mark, Symbol, Token};
 use vv_gate::tree::{Assignment, GateFile, Group, Ident, Operand, Operator, Term};
 use vv_gate_lex::lexer::next;
@@ -131,14 +132,17 @@ fn at_entity<'a>(alloc: Global, context: Context<'a>, token: Token<'a>) -> Resul
                 groups: Vec::new(alloc),
                 idents: Vec::new(alloc),
             };
-            wait(&PORT_CLAUSE, Place::Port(ports))
+            match Box::new(alloc, ports) {
+                Ok(ports) => wait(&PORT_CLAUSE, Place::Port(ports)),
+                Err(_) => Err(Stop::Memory),
+            }
         }
         Symbol::Mark(_) => Err(Stop::Misplaced),
         Symbol::Other(_) => Err(Stop::Misplaced),
     }
 }
 
-fn at_port<'a>(ports: Ports<'a>, token: Token<'a>) -> Result<State<'a>, Stop>
+fn at_port<'a>(ports: Box<Ports<'a>>, token: Token<'a>) -> Result<State<'a>, Stop>
     ensures { Takes (machine.choose (machine.at_port (read_ports ports.entry)) (token_of token.entry).symbol) result }
 {
     match token.symbol {
@@ -152,7 +156,7 @@ fn at_port<'a>(ports: Ports<'a>, token: Token<'a>) -> Result<State<'a>, Stop>
 }
 
 /// The ports with one more name in their last group.
-fn with_ident<'a>(ports: Ports<'a>, ident: Ident<'a>) -> Result<Ports<'a>, Stop>
+fn with_ident<'a>(ports: Box<Ports<'a>>, ident: Ident<'a>) -> Result<Box<Ports<'a>>, Stop>
     ensures { MatchResult result (λ p. read_ports p ≡ machine.with_ident (read_ports ports.entry) (ident_of ident.entry)) (λ e. e ≡ Stop.Memory) }
 {
     let mut ports = ports;
@@ -162,7 +166,7 @@ fn with_ident<'a>(ports: Ports<'a>, ident: Ident<'a>) -> Result<Ports<'a>, Stop>
     }
 }
 
-fn after_port<'a>(ports: Ports<'a>, ident: Ident<'a>, token: Token<'a>) -> Result<State<'a>, Stop>
+fn after_port<'a>(ports: Box<Ports<'a>>, ident: Ident<'a>, token: Token<'a>) -> Result<State<'a>, Stop>
     ensures { Takes (machine.choose (machine.after_port (read_ports ports.entry) (ident_of ident.entry)) (token_of token.entry).symbol) result }
 {
     if is(token, Mark::Comma) {
@@ -180,34 +184,23 @@ fn after_port<'a>(ports: Ports<'a>, ident: Ident<'a>, token: Token<'a>) -> Resul
 /// The last group with its last name and its direction.
 fn close_group<'a>(
     alloc: Global,
-    ports: Ports<'a>,
+    ports: Box<Ports<'a>>,
     ident: Ident<'a>,
     input: bool,
-) -> Result<(Ports<'a>, Group<'a>), Stop>
+) -> Result<(Box<Ports<'a>>, Group<'a>), Stop>
     ensures { MatchResult result (λ r. (read_ports r.0 ≡ machine.no_idents (read_ports ports.entry)) × (group_of r.1 ≡ machine.group_with (read_ports ports.entry) (ident_of ident.entry) input)) (λ e. e ≡ Stop.Memory) }
 {
-    let Ports {
-        context,
-        entity,
-        groups,
-        idents,
-    } = ports;
-    let mut idents = idents;
-    if idents.push(ident).is_err() {
+    let mut ports = ports;
+    if ports.idents.push(ident).is_err() {
         return Err(Stop::Memory);
     }
-    let ports = Ports {
-        context,
-        entity,
-        groups,
-        idents: Vec::new(alloc),
-    };
+    let idents = mem::replace(&mut ports.idents, Vec::new(alloc));
     Ok((ports, Group { idents, input }))
 }
 
 fn with_mode<'a>(
     alloc: Global,
-    ports: Ports<'a>,
+    ports: Box<Ports<'a>>,
     ident: Ident<'a>,
     input: bool,
 ) -> Result<State<'a>, Stop>
@@ -221,7 +214,7 @@ fn with_mode<'a>(
 
 fn at_mode<'a>(
     alloc: Global,
-    ports: Ports<'a>,
+    ports: Box<Ports<'a>>,
     ident: Ident<'a>,
     token: Token<'a>,
 ) -> Result<State<'a>, Stop>
@@ -237,7 +230,7 @@ fn at_mode<'a>(
 }
 
 /// The ports with one more group.
-fn with_group<'a>(ports: Ports<'a>, group: Group<'a>) -> Result<Ports<'a>, Stop>
+fn with_group<'a>(ports: Box<Ports<'a>>, group: Group<'a>) -> Result<Box<Ports<'a>>, Stop>
     ensures { MatchResult result (λ p. read_ports p ≡ machine.with_group (read_ports ports.entry) (group_of group.entry)) (λ e. e ≡ Stop.Memory) }
 {
     let mut ports = ports;
@@ -247,7 +240,7 @@ fn with_group<'a>(ports: Ports<'a>, group: Group<'a>) -> Result<Ports<'a>, Stop>
     }
 }
 
-fn after_group<'a>(ports: Ports<'a>, group: Group<'a>, token: Token<'a>) -> Result<State<'a>, Stop>
+fn after_group<'a>(ports: Box<Ports<'a>>, group: Group<'a>, token: Token<'a>) -> Result<State<'a>, Stop>
     ensures { Takes (machine.choose (machine.after_group (read_ports ports.entry) (group_of group.entry)) (token_of token.entry).symbol) result }
 {
     if is(token, Mark::Semicolon) {
@@ -265,7 +258,7 @@ fn after_group<'a>(ports: Ports<'a>, group: Group<'a>, token: Token<'a>) -> Resu
     Err(Stop::Misplaced)
 }
 
-fn at_architecture<'a>(ports: Ports<'a>, token: Token<'a>) -> Result<State<'a>, Stop>
+fn at_architecture<'a>(ports: Box<Ports<'a>>, token: Token<'a>) -> Result<State<'a>, Stop>
     ensures { Takes (machine.choose (machine.at_architecture (read_ports ports.entry)) (token_of token.entry).symbol) result }
 {
     match token.symbol {
@@ -280,7 +273,7 @@ fn at_architecture<'a>(ports: Ports<'a>, token: Token<'a>) -> Result<State<'a>, 
 
 fn at_of<'a>(
     alloc: Global,
-    ports: Ports<'a>,
+    ports: Box<Ports<'a>>,
     architecture: Ident<'a>,
     token: Token<'a>,
 ) -> Result<State<'a>, Stop>
@@ -288,6 +281,7 @@ fn at_of<'a>(
 {
     match token.symbol {
         Symbol::Name(text) => {
+            let ports = Box::into_inner(ports);
             let file = GateFile {
                 logic: ports.context.logic,
                 numeric: ports.context.numeric,
@@ -297,15 +291,18 @@ fn at_of<'a>(
                 of: Ident { text, at: token.at },
                 assignments: Vec::new(alloc),
             };
-            wait(&BODY, Place::Statement(file))
+            match Box::new(alloc, file) {
+                Ok(file) => wait(&BODY, Place::Statement(file)),
+                Err(_) => Err(Stop::Memory),
+            }
         }
         Symbol::Mark(_) => Err(Stop::Misplaced),
         Symbol::Other(_) => Err(Stop::Misplaced),
     }
 }
 
-fn at_statement<'a>(alloc: Global, file: GateFile<'a>, token: Token<'a>) -> Result<State<'a>, Stop>
-    ensures { Takes (machine.choose (machine.at_statement (file_of file.entry)) (token_of token.entry).symbol) result }
+fn at_statement<'a>(alloc: Global, file: Box<GateFile<'a>>, token: Token<'a>) -> Result<State<'a>, Stop>
+    ensures { Takes (machine.choose (machine.at_statement (file_of file.entry.value)) (token_of token.entry).symbol) result }
 {
     if is(token, Mark::End) {
         return wait(&LAST, Place::Finish(file));
@@ -453,8 +450,8 @@ fn operator_or_and(known: Option<Operator>) -> Operator
 }
 
 /// The assignment of a chain that ends with this term, and the file before it.
-fn close_chain<'a>(chain: Chain<'a>, term: Term<'a>) -> Result<(GateFile<'a>, Assignment<'a>), Stop>
-    ensures { MatchResult result (λ r. (file_of r.0 ≡ (chain_of chain.entry).file) × (assignment_of r.1 ≡ machine.assignment_with (chain_of chain.entry) (term_of term.entry))) (λ e. e ≡ Stop.Memory) }
+fn close_chain<'a>(chain: Chain<'a>, term: Term<'a>) -> Result<(Box<GateFile<'a>>, Assignment<'a>), Stop>
+    ensures { MatchResult result (λ r. (file_of r.0.value ≡ (chain_of chain.entry).file) × (assignment_of r.1 ≡ machine.assignment_with (chain_of chain.entry) (term_of term.entry))) (λ e. e ≡ Stop.Memory) }
 {
     let Chain {
         file,
@@ -477,8 +474,11 @@ fn close_chain<'a>(chain: Chain<'a>, term: Term<'a>) -> Result<(GateFile<'a>, As
 }
 
 /// The file with one more assignment.
-fn add_assignment<'a>(file: GateFile<'a>, assignment: Assignment<'a>) -> Result<GateFile<'a>, Stop>
-    ensures { MatchResult result (λ f. file_of f ≡ machine.with_assignment (file_of file.entry) (assignment_of assignment.entry)) (λ e. e ≡ Stop.Memory) }
+fn add_assignment<'a>(
+    file: Box<GateFile<'a>>,
+    assignment: Assignment<'a>,
+) -> Result<Box<GateFile<'a>>, Stop>
+    ensures { MatchResult result (λ f. file_of f.value ≡ machine.with_assignment (file_of file.entry.value) (assignment_of assignment.entry)) (λ e. e ≡ Stop.Memory) }
 {
     let mut file = file;
     match file.assignments.push(assignment) {
@@ -564,7 +564,7 @@ fn finish<'a>(state: State<'a>) -> Option<GateFile<'a>>
     match expected {
         [_, ..] => None,
         [] => match place {
-            Place::Finish(file) => Some(file),
+            Place::Finish(file) => Some(Box::into_inner(file)),
             Place::Logic
             | Place::AfterLogic(_)
             | Place::Numeric(_)
