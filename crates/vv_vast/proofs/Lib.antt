@@ -4,3 +4,4 @@ pub mod OneCut
 pub mod OneTree
 pub mod OneFlat
 pub mod Inverter
+mod Lengths
