@@ -8,7 +8,7 @@ use Rattle.vv_gate.specs.declared.tree.Ident as program
 use Rattle.std.proofs.lemmas.List.{get_or_default}
 use Rattle.vv_gate_check.specs.declared.names.Names.{Names}
 use Rattle.vv_gate_check.specs.Places.{first, place_if, port_of, is_among, inputs_of, outputs_of, repeated_ports}
-use Rattle.vv_gate_check.specs.Names.{inputs_in, outputs_in, AreSame, Declares}
+use Rattle.vv_gate_check.specs.Names.{inputs_in, outputs_in, AreSame, Adds, Declares}
 use Rattle.vv_gate_check.proofs.Among.{among_append, among_kept, same_more, inputs_of-append, outputs_of-append}
 use Rattle.vv_gate_check.proofs.Steps.{first_none, first_some, flat_map_more, flat_map_rest, flat_map_all}
 
@@ -63,29 +63,13 @@ add_same ps i0 o0 i1 o1 hi ho = λ q.
     ∙ ap (λ x. is_among q i1 || x) (sym (ho q ∙ among_append q (outputs_of ps) o0))
     ∙ sym (among_append q i1 o1)
 
--- one port whose name was there
-pub declares_again : (p : Port) (n : Names) → (is_among p.ident.text (inputs_in n) || is_among p.ident.text (outputs_in n)) ≡ true → Declares (p ∷ []) n n (Some p.ident.at)
-declares_again p n h = record {
-  place_is = ap (λ b. first (place_if b p.ident.at ++ [])) (sym (among_append p.ident.text (inputs_in n) (outputs_in n) ∙ h));
-  inputs = λ e. cc;
-  outputs = λ e. cc;
-}
+-- a name that was there
+pub adds_again : (i : Ident) (others old new : List (List ℕ)) → (is_among i.text others || is_among i.text old) ≡ true → Adds i others old new (Some i.at)
+adds_again i others old new h = record { place_is = sym (ap (λ b. first (place_if b i.at)) h); same = λ e. cc }
 
-new_place : (i : Ident) (n : Names) → is_among i.text (inputs_in n) ≡ false → is_among i.text (outputs_in n) ≡ false →
-    None ≡ first (place_if (is_among i.text (inputs_in n ++ outputs_in n)) i.at ++ [])
-new_place i n h k = ap (λ b. first (place_if b i.at ++ [])) (sym (among_append i.text (inputs_in n) (outputs_in n) ∙ ap (λ b. b || is_among i.text (outputs_in n)) h ∙ k))
-
--- one more in port
-pub declares_input : (input : Bool) (i : Ident) (old new : Names) → input ≡ true → is_among i.text (inputs_in old) ≡ false → is_among i.text (outputs_in old) ≡ false →
-    AreSame (inputs_in new) (i.text ∷ inputs_in old) → outputs_in new ≡ outputs_in old → Declares (port_of input i ∷ []) old new None
-declares_input true i old new e h k ins outs = record { place_is = new_place i old h k; inputs = λ r. ins; outputs = λ r q. ap (is_among q) outs }
-declares_input false i old new e h k ins outs = cc
-
--- one more out port
-pub declares_output : (input : Bool) (i : Ident) (old new : Names) → input ≡ false → is_among i.text (inputs_in old) ≡ false → is_among i.text (outputs_in old) ≡ false →
-    inputs_in new ≡ inputs_in old → AreSame (outputs_in new) (i.text ∷ outputs_in old) → Declares (port_of input i ∷ []) old new None
-declares_output false i old new e h k ins outs = record { place_is = new_place i old h k; inputs = λ r q. ap (is_among q) ins; outputs = λ r. outs }
-declares_output true i old new e h k ins outs = cc
+-- a new name
+pub adds_new : (i : Ident) (others old new : List (List ℕ)) → is_among i.text others ≡ false → is_among i.text old ≡ false → AreSame new (i.text ∷ old) → Adds i others old new None
+adds_new i others old new h k same = record { place_is = sym (ap (λ b. first (place_if (b || is_among i.text old) i.at)) h ∙ ap (λ b. first (place_if b i.at)) k); same = λ e. same }
 
 pub declares_more : (a b : List Port) (n0 n1 n2 : Names) (place : Option ℕ) → Declares a n0 n1 None → Declares b n1 n2 place → Declares (a ++ b) n0 n2 place
 declares_more a b n0 n1 n2 place h1 h2 =

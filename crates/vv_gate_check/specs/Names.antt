@@ -1,14 +1,19 @@
 -- What goes into the sets of names, and what is taken out.
-use Rattle.std.specs.Prelude.{◌≡◌, ℕ, List, [], ◌∷◌, ◌++◌, map, Option, None}
-use Rattle.vv_gate.specs.Tree.{Port, Assignment}
+use Rattle.std.specs.Prelude.{◌≡◌, ℕ, ◌||◌, List, [], ◌∷◌, ◌++◌, map, Option, None}
+use Rattle.std.specs.Borrow.{Bor}
+use Rattle.std.specs.BTreeSet.{BTreeSet}
+use Rattle.vv_gate.specs.Tree.{Ident, Port, Assignment}
 use Rattle.vv_gate_check.specs.declared.names.Names.{Names}
-use Rattle.vv_gate_check.specs.Places.{first, is_among, inputs_of, outputs_of, repeated_ports, without, broken_assignments}
+use Rattle.vv_gate_check.specs.Places.{first, place_if, is_among, inputs_of, outputs_of, repeated_ports, without, broken_assignments}
+
+abbrev pub names_in : BTreeSet (Bor (List ℕ)) → List (List ℕ)
+names_in s = map (λ k. k.now) s.keys
 
 abbrev pub inputs_in : Names → List (List ℕ)
-inputs_in n = map (λ k. k.now) n.inputs.keys
+inputs_in n = names_in n.inputs
 
 abbrev pub outputs_in : Names → List (List ℕ)
-outputs_in n = map (λ k. k.now) n.outputs.keys
+outputs_in n = names_in n.outputs
 
 abbrev pub IsEmpty : Names → Type 0
 IsEmpty n = (n.inputs.keys ≡ []) × (n.outputs.keys ≡ [])
@@ -16,6 +21,11 @@ IsEmpty n = (n.inputs.keys ≡ []) × (n.outputs.keys ≡ [])
 -- the same names, in any order
 abbrev pub AreSame : List (List ℕ) → List (List ℕ) → Type 0
 AreSame a b = (name : List ℕ) → is_among name a ≡ is_among name b
+
+-- the name comes to the names, or the place is its own where they or the others have it
+pub record Adds (i : Ident) (others old new : List (List ℕ)) (place : Option ℕ) : Type 0 where
+  pub place_is : place ≡ first (place_if (is_among i.text others || is_among i.text old) i.at)
+  pub same : place ≡ None → AreSame new (i.text ∷ old)
 
 -- the ports come to the names, or the place is that of the first whose name was there
 pub record Declares (ports : List Port) (old new : Names) (place : Option ℕ) : Type 0 where

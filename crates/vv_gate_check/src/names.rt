@@ -3,7 +3,7 @@ ghost use Rattle.std.specs.Prelude.{◌≡◌, ◌∷◌, [], IfOk, map, flat_ma
 ghost use Rattle.vv_gate.specs.Tree.{ports_of_group};
 ghost use Rattle.vv_gate.specs.View.{ident_of, group_of, term_of, assignment_of};
 ghost use Rattle.vv_gate_check.specs.Places.{first, port_of, unknown_term};
-ghost use Rattle.vv_gate_check.specs.Names.{inputs_in, Declares, Assigns, IsEmpty};
+ghost use Rattle.vv_gate_check.specs.Names.{inputs_in, names_in, Adds, Declares, Assigns, IsEmpty};
 
 use std::alloc::{AllocError, Global};
 use std::collections::BTreeSet;
@@ -16,6 +16,20 @@ pub(crate) struct Names<'a> {
     inputs: BTreeSet<&'a [u8]>,
     /// The out ports that aren't assigned yet.
     outputs: BTreeSet<&'a [u8]>,
+}
+
+/// Adds a name, or answers its place if these names or the others have it.
+fn add<'a>(
+    names: &mut BTreeSet<&'a [u8]>,
+    others: &BTreeSet<&'a [u8]>,
+    ident: &Ident<'a>,
+) -> Result<Option<usize>, AllocError>
+    ensures { IfOk result (Adds (ident_of ident.now) (names_in others.now) (names_in names.old) (names_in names.new)) }
+{
+    if others.contains(ident.text) || !names.insert(ident.text)? {
+        return Ok(Some(ident.at));
+    }
+    Ok(None)
 }
 
 impl<'a> Names<'a> {
@@ -32,15 +46,10 @@ impl<'a> Names<'a> {
     fn declare(&mut self, ident: &Ident<'a>, input: bool) -> Result<Option<usize>, AllocError>
         ensures { IfOk result (Declares (port_of input (ident_of ident.now) ∷ []) self.old self.new) }
     {
-        if self.inputs.contains(ident.text) || self.outputs.contains(ident.text) {
-            return Ok(Some(ident.at));
-        }
         if input {
-            self.inputs.insert(ident.text)?;
-        } else {
-            self.outputs.insert(ident.text)?;
+            return add(&mut self.inputs, &self.outputs, ident);
         }
-        Ok(None)
+        add(&mut self.outputs, &self.inputs, ident)
     }
 
     /// Adds the ports of a group, up to the first whose name is there.
