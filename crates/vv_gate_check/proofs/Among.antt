@@ -1,7 +1,7 @@
 -- Whether a name is among names.
 use Rattle.std.proofs.Common.{◌≡◌, ℕ, Bool, true, false, not, cond, ◌&&◌, ◌||◌, List, [], ◌∷◌, ◌++◌, map, filter, refl, sym, ◌∙◌, ap, Bor, Ordering}
 use Rattle.std.specs.List.{list_any}
-use Rattle.std.specs.BTreeSet.{BTreeSet, contains}
+use Rattle.std.specs.HashSet.{HashSet, contains}
 use Rattle.std.specs.Ordering.{is_eq, nat_cmp}
 use Rattle.std.specs.Cmp.Lexicographic.{slice_cmp}
 use Rattle.std.specs.Str.{bytes_eq}
@@ -16,8 +16,8 @@ use Rattle.vv_gate_check.specs.Places.{is_among, inputs_of, outputs_of, without}
 use Rattle.vv_gate_check.specs.Names.{AreSame}
 
 -- how a set compares its names
-abbrev pub order : Bor (List ℕ) → Bor (List ℕ) → Ordering
-order a b = slice_cmp nat_cmp a.now b.now
+abbrev pub same : Bor (List ℕ) → Bor (List ℕ) → Bool
+same a b = bytes_eq a.now b.now
 
 or_move : (a b c : Bool) → (b || (a || c)) ≡ ((a || b) || c)
 or_move true true c = refl
@@ -32,11 +32,9 @@ pub name_sym : (a b : List ℕ) → bytes_eq a b ≡ bytes_eq b a
 name_sym a b = nat_list_eq_equiv.symm a b
 
 -- a set has a name if it is among the set's names
-pub among_keys : (q : List ℕ) (keys : List (Bor (List ℕ))) → is_among q (map (λ k. k.now) keys) ≡ list_any (λ k. is_eq (slice_cmp nat_cmp q k.now)) keys
+pub among_keys : (q : List ℕ) (keys : List (Bor (List ℕ))) → is_among q (map (λ k. k.now) keys) ≡ list_any (λ k. bytes_eq q k.now) keys
 among_keys q [] = refl
-among_keys q (k ∷ more) =
-    ap (λ b. b || is_among q (map (λ k. k.now) more)) (sym (is_eq-slice_cmp q k.now))
-    ∙ ap (λ b. is_eq (slice_cmp nat_cmp q k.now) || b) (among_keys q more)
+among_keys q (k ∷ more) = ap (λ b. bytes_eq q k.now || b) (among_keys q more)
 
 cond_or : (b x : Bool) → cond b true x ≡ (b || x)
 cond_or true x = refl
@@ -47,13 +45,13 @@ cond_and true x = refl
 cond_and false x = refl
 
 -- a set after a name went in
-pub inserted : (k : Bor (List ℕ)) (old new : BTreeSet (Bor (List ℕ))) →
-    ((q : Bor (List ℕ)) → contains order new q ≡ cond (is_eq (order k q)) true (contains order old q)) → AreSame (map (λ k. k.now) new.keys) (k.now ∷ map (λ k. k.now) old.keys)
+pub inserted : {S : Type 0} (k : Bor (List ℕ)) (old new : HashSet (Bor (List ℕ)) S) →
+    ((q : Bor (List ℕ)) → contains same new q ≡ cond (same k q) true (contains same old q)) → AreSame (map (λ k. k.now) new.keys) (k.now ∷ map (λ k. k.now) old.keys)
 inserted k old new h = λ q.
     let at : Bor (List ℕ) = record { ref_ptr = (0, 0); now = q } in
     among_keys q new.keys ∙ h at
-    ∙ cond_or (is_eq (slice_cmp nat_cmp k.now q)) (contains order old at)
-    ∙ ap (λ b. b || contains order old at) (is_eq-slice_cmp k.now q ∙ name_sym k.now q)
+    ∙ cond_or (bytes_eq k.now q) (contains same old at)
+    ∙ ap (λ b. b || contains same old at) (name_sym k.now q)
     ∙ ap (λ b. bytes_eq q k.now || b) (sym (among_keys q old.keys))
 
 -- names that come in two steps
@@ -101,12 +99,11 @@ pub without_same : (n : List ℕ) (a b : List (List ℕ)) → AreSame a b → Ar
 without_same n a b h = λ q. among_without q n a ∙ ap (λ x. not (bytes_eq n q) && x) (h q) ∙ sym (among_without q n b)
 
 -- a set after a name was taken out
-pub removed : (k : Bor (List ℕ)) (old new : BTreeSet (Bor (List ℕ))) →
-    ((q : Bor (List ℕ)) → contains order new q ≡ cond (is_eq (order k q)) false (contains order old q)) → AreSame (map (λ k. k.now) new.keys) (without k.now (map (λ k. k.now) old.keys))
+pub removed : {S : Type 0} (k : Bor (List ℕ)) (old new : HashSet (Bor (List ℕ)) S) →
+    ((q : Bor (List ℕ)) → contains same new q ≡ cond (same k q) false (contains same old q)) → AreSame (map (λ k. k.now) new.keys) (without k.now (map (λ k. k.now) old.keys))
 removed k old new h = λ q.
     let at : Bor (List ℕ) = record { ref_ptr = (0, 0); now = q } in
     among_keys q new.keys ∙ h at
-    ∙ cond_and (is_eq (slice_cmp nat_cmp k.now q)) (contains order old at)
-    ∙ ap (λ b. not b && contains order old at) (is_eq-slice_cmp k.now q)
+    ∙ cond_and (bytes_eq k.now q) (contains same old at)
     ∙ ap (λ b. not (bytes_eq k.now q) && b) (sym (among_keys q old.keys))
     ∙ sym (among_without q k.now (map (λ k. k.now) old.keys))

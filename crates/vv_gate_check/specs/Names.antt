@@ -1,12 +1,12 @@
 -- What goes into the sets of names, and what is taken out.
 use Rattle.std.specs.Prelude.{◌≡◌, ℕ, ◌||◌, List, [], ◌∷◌, ◌++◌, map, Option, None}
 use Rattle.std.specs.Borrow.{Bor}
-use Rattle.std.specs.BTreeSet.{BTreeSet}
+use Rattle.std.specs.HashSet.{HashSet}
 use Rattle.vv_gate.specs.Tree.{Ident, Port, Assignment}
 use Rattle.vv_gate_check.specs.declared.names.Names.{Names}
 use Rattle.vv_gate_check.specs.Places.{first, place_if, is_among, inputs_of, outputs_of, repeated_ports, without, broken_assignments}
 
-abbrev pub names_in : BTreeSet (Bor (List ℕ)) → List (List ℕ)
+abbrev pub names_in : {S : Type 0} → HashSet (Bor (List ℕ)) S → List (List ℕ)
 names_in s = map (λ k. k.now) s.keys
 
 abbrev pub inputs_in : Names → List (List ℕ)

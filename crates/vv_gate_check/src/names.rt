@@ -6,22 +6,22 @@ ghost use Rattle.vv_gate_check.specs.Places.{first, port_of, unknown_term};
 ghost use Rattle.vv_gate_check.specs.Names.{inputs_in, names_in, Adds, Declares, Assigns, IsEmpty};
 
 use std::alloc::{AllocError, Global};
-use std::collections::BTreeSet;
+use std::collections::HashSet;
 use vv_gate::tree::{Assignment, Group, Ident, Operand, Term};
 
 /// The names of the ports that may still stand in an assignment.
 #[derive(Drop)]
 pub(crate) struct Names<'a> {
     /// The in ports.
-    inputs: BTreeSet<&'a [u8]>,
+    inputs: HashSet<&'a [u8]>,
     /// The out ports that aren't assigned yet.
-    outputs: BTreeSet<&'a [u8]>,
+    outputs: HashSet<&'a [u8]>,
 }
 
 /// Adds a name, or answers its place if these names or the others have it.
 fn add<'a>(
-    names: &mut BTreeSet<&'a [u8]>,
-    others: &BTreeSet<&'a [u8]>,
+    names: &mut HashSet<&'a [u8]>,
+    others: &HashSet<&'a [u8]>,
     ident: &Ident<'a>,
 ) -> Result<Option<usize>, AllocError>
     ensures { IfOk result (Adds (ident_of ident.now) (names_in others.now) (names_in names.old) (names_in names.new)) }
@@ -37,8 +37,8 @@ impl<'a> Names<'a> {
         ensures { IsEmpty result }
     {
         Names {
-            inputs: BTreeSet::new(alloc),
-            outputs: BTreeSet::new(alloc),
+            inputs: HashSet::new(alloc),
+            outputs: HashSet::new(alloc),
         }
     }
 
