@@ -2,9 +2,6 @@
 use Rattle.std.proofs.Common.{◌≡◌, ℕ, ◌+◌, ◌<◌, Bool, true, false, cond, List, [], ◌∷◌, ◌++◌, map, length, take, get_or, refl, sym, ap, ◌∙◌}
 use Rattle.std.proofs.lemmas.List.{take_more, map-append}
 use Rattle.std.proofs.lemmas.List.Folds.{list_any-append}
-use Rattle.std.proofs.lemmas.Map.Text.{is_eq-slice_cmp}
-use Rattle.std.specs.Cmp.Lexicographic.{slice_cmp}
-use Rattle.std.specs.Ordering.{nat_cmp, is_eq}
 use Rattle.std.specs.Prelude.{◌||◌}
 use Rattle.std.specs.Str.{bytes_eq}
 use Rattle.vv_gate.specs.View.{assignment_of}
@@ -18,7 +15,7 @@ either false true = refl
 either false false = refl
 
 pub one_more : (xs : List Assignment) (i : ℕ) (x : Assignment) (q : List ℕ) (before after : Bool) → i < length xs → x ≡ get_or xs i x
-    → before ≡ is_assigned (map assignment_of (take i xs)) q → after ≡ cond (is_eq (slice_cmp nat_cmp x.target.text.now q)) true before
+    → before ≡ is_assigned (map assignment_of (take i xs)) q → after ≡ cond (bytes_eq x.target.text.now q) true before
     → after ≡ is_assigned (map assignment_of (take (i + 1) xs)) q
 one_more xs i x q before after l at old new =
     let test = λ (a : Assignment). bytes_eq a.target.text.now q in
@@ -26,4 +23,4 @@ one_more xs i x q before after l at old new =
     ap (map assignment_of) (take_more xs i x l ∙ ap (λ y. take i xs ++ y ∷ []) (sym at)) ∙ map-append assignment_of (take i xs) (x ∷ []) in
     let k : is_assigned (map assignment_of (take (i + 1) xs)) q ≡ (is_assigned (map assignment_of (take i xs)) q || (test x || false)) =
     ap (λ l. is_assigned l q) e ∙ list_any-append _ (map assignment_of (take i xs)) (map assignment_of (x ∷ [])) in
-    new ∙ (ap (λ b. cond b true before) (is_eq-slice_cmp x.target.text.now q) ∙ (either (test x) before ∙ (ap (λ b. b || (test x || false)) old ∙ sym k)))
+    new ∙ (either (test x) before ∙ (ap (λ b. b || (test x || false)) old ∙ sym k))

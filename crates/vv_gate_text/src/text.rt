@@ -1,7 +1,6 @@
 //! The Verilog text.
-ghost use Rattle.std.specs.BTreeSet.{contains_by};
-ghost use Rattle.std.specs.Cmp.Lexicographic.{slice_cmp};
-ghost use Rattle.std.specs.Ordering.{nat_cmp};
+ghost use Rattle.std.specs.HashSet.{contains_by};
+ghost use Rattle.std.specs.Str.{bytes_eq};
 ghost use Rattle.std.specs.Prelude.{◌≡◌, ◌++◌, ℕ, List, [], ◌∷◌, map, flat_map, filter, not, ◌&&◌, codes, IfOk, OnOk};
 ghost use Rattle.vv_gate.specs.Conditions.{IsSound};
 ghost use Rattle.vv_gate.specs.View.{file_of, assignment_of, term_of, operand_of};
@@ -17,7 +16,7 @@ ghost use Rattle.vv_vast.specs.Grammar.{spelled_binary, VerilogText};
 use crate::names::write_name;
 use crate::ports::{Port, ports};
 use std::alloc::{AllocError, Global};
-use std::collections::BTreeSet;
+use std::collections::HashSet;
 use vv_gate::tree::{Assignment, GateFile, Operand, Operator, Term};
 
 /// The sign of an operator.
@@ -124,10 +123,10 @@ fn write_ports(out: &mut Vec<u8>, ports: &[Port<'_>]) -> Result<(), AllocError>
 fn targets<'a>(
     alloc: Global,
     assignments: &[Assignment<'a>],
-) -> Result<BTreeSet<&'a [u8]>, AllocError>
-    ensures { IfOk result (λ s. (q : List ℕ) → contains_by (λ k. slice_cmp nat_cmp q k.now) s ≡ is_assigned (map assignment_of assignments.now) q) }
+) -> Result<HashSet<&'a [u8]>, AllocError>
+    ensures { IfOk result (λ s. (q : List ℕ) → contains_by (λ k. bytes_eq q k.now) s ≡ is_assigned (map assignment_of assignments.now) q) }
 {
-    let mut names = BTreeSet::new(alloc);
+    let mut names = HashSet::new(alloc);
     for assignment in assignments {
         names.insert(assignment.target.text)?;
     }
@@ -138,9 +137,9 @@ fn targets<'a>(
 fn write_idles(
     out: &mut Vec<u8>,
     ports: &[Port<'_>],
-    targets: &BTreeSet<&[u8]>,
+    targets: &HashSet<&[u8]>,
 ) -> Result<(), AllocError>
-    ensures { OnOk result (out.new.items ≡ out.old.items ++ flat_map written_item (map made_idle (filter (λ p. not p.input && not (contains_by (λ k. slice_cmp nat_cmp p.ident.text k.now) targets.now)) (map port_of ports.now)))) }
+    ensures { OnOk result (out.new.items ≡ out.old.items ++ flat_map written_item (map made_idle (filter (λ p. not p.input && not (contains_by (λ k. bytes_eq p.ident.text k.now) targets.now)) (map port_of ports.now)))) }
 {
     for port in ports {
         if !port.input && !targets.contains(port.ident.text) {

@@ -1,8 +1,7 @@
 use Rattle.std.proofs.Common.{◌≡◌, ℕ, List, ◌++◌, map, ap, ◌∙◌, sym, subst, [], ◌∷◌}
-use Rattle.std.specs.BTreeSet.{contains_by}
-use Rattle.std.specs.Cmp.Lexicographic.{slice_cmp}
+use Rattle.std.specs.HashSet.{contains_by}
+use Rattle.std.specs.Str.{bytes_eq}
 use Rattle.std.specs.List.{flat_map}
-use Rattle.std.specs.Ordering.{nat_cmp}
 use Rattle.std.specs.Prelude.{codes, filter}
 use Rattle.vv_gate.specs.View.{file_of, assignment_of}
 use Rattle.vv_gate_text.proofs.Legal.{names_legal}
@@ -18,10 +17,10 @@ use Rattle.vv_gate_text.proofs.text.text.Goals as goal
 
 pub returns : goal.returns
 returns c =
-    let targets : (q : List ℕ) → contains_by (λ k. slice_cmp nat_cmp q k.now) c.in_ok-targets.targets ≡ is_assigned (file_of c.args.file.now).assignments q =
+    let targets : (q : List ℕ) → contains_by (λ k. bytes_eq q k.now) c.in_ok-targets.targets ≡ is_assigned (file_of c.args.file.now).assignments q =
     λ q. c.in_ok-targets.ensures q ∙ ap (λ l. is_assigned (map assignment_of l) q) c.deref.ensures.value in
     let f = file_of c.args.file.now in
-    let written : c.extend_from_slice-4.new.self.items ≡ text_of f = text_parts (file_of c.args.file.now) (λ q. contains_by (λ k. slice_cmp nat_cmp q k.now) c.in_ok-targets.targets) (map port_of c.in_ok-ports.ports.items)
+    let written : c.extend_from_slice-4.new.self.items ≡ text_of f = text_parts (file_of c.args.file.now) (λ q. contains_by (λ k. bytes_eq q k.now) c.in_ok-targets.targets) (map port_of c.in_ok-ports.ports.items)
     c.extend_from_slice.new.self.items c.extend_from_slice-2.new.self.items c.write_ports.new.out.items c.extend_from_slice-3.new.self.items
     c.write_assignments.new.out.items c.write_idles.new.out.items c.extend_from_slice-4.new.self.items
     c.in_ok-ports.ensures targets
@@ -30,7 +29,7 @@ returns c =
     (c.in_ok-write_ports.ensures ∙ ap (λ l. c.extend_from_slice-2.new.self.items ++ written_ports (map made_port (map port_of l))) c.deref-2.ensures.value)
     c.in_ok-extend_from_slice-3.ensures.items
     (c.in_ok-write_assignments.ensures ∙ ap (λ l. c.extend_from_slice-3.new.self.items ++ flat_map written_item (map made_assignment (map assignment_of l))) c.deref-3.ensures.value)
-    (c.in_ok-write_idles.ensures ∙ ap (λ l. c.write_assignments.new.out.items ++ flat_map written_item (map made_idle (filter (is_idle_by (λ q. contains_by (λ k. slice_cmp nat_cmp q k.now) c.in_ok-targets.targets)) (map port_of l)))) c.deref-4.ensures.value)
+    (c.in_ok-write_idles.ensures ∙ ap (λ l. c.write_assignments.new.out.items ++ flat_map written_item (map made_idle (filter (is_idle_by (λ q. contains_by (λ k. bytes_eq q k.now) c.in_ok-targets.targets)) (map port_of l)))) c.deref-4.ensures.value)
     c.in_ok-extend_from_slice-4.ensures.items in
     record {
       written = written;
