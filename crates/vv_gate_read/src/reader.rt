@@ -166,7 +166,11 @@ fn with_ident<'a>(ports: Box<Ports<'a>>, ident: Ident<'a>) -> Result<Box<Ports<'
     }
 }
 
-fn after_port<'a>(ports: Box<Ports<'a>>, ident: Ident<'a>, token: Token<'a>) -> Result<State<'a>, Stop>
+fn after_port<'a>(
+    ports: Box<Ports<'a>>,
+    ident: Ident<'a>,
+    token: Token<'a>,
+) -> Result<State<'a>, Stop>
     ensures { Takes (machine.choose (machine.after_port (read_ports ports.entry) (ident_of ident.entry)) (token_of token.entry).symbol) result }
 {
     if is(token, Mark::Comma) {
@@ -240,7 +244,11 @@ fn with_group<'a>(ports: Box<Ports<'a>>, group: Group<'a>) -> Result<Box<Ports<'
     }
 }
 
-fn after_group<'a>(ports: Box<Ports<'a>>, group: Group<'a>, token: Token<'a>) -> Result<State<'a>, Stop>
+fn after_group<'a>(
+    ports: Box<Ports<'a>>,
+    group: Group<'a>,
+    token: Token<'a>,
+) -> Result<State<'a>, Stop>
     ensures { Takes (machine.choose (machine.after_group (read_ports ports.entry) (group_of group.entry)) (token_of token.entry).symbol) result }
 {
     if is(token, Mark::Semicolon) {
@@ -301,7 +309,11 @@ fn at_of<'a>(
     }
 }
 
-fn at_statement<'a>(alloc: Global, file: Box<GateFile<'a>>, token: Token<'a>) -> Result<State<'a>, Stop>
+fn at_statement<'a>(
+    alloc: Global,
+    file: Box<GateFile<'a>>,
+    token: Token<'a>,
+) -> Result<State<'a>, Stop>
     ensures { Takes (machine.choose (machine.at_statement (file_of file.entry.value)) (token_of token.entry).symbol) result }
 {
     if is(token, Mark::End) {
@@ -450,7 +462,10 @@ fn operator_or_and(known: Option<Operator>) -> Operator
 }
 
 /// The assignment of a chain that ends with this term, and the file before it.
-fn close_chain<'a>(chain: Chain<'a>, term: Term<'a>) -> Result<(Box<GateFile<'a>>, Assignment<'a>), Stop>
+fn close_chain<'a>(
+    chain: Chain<'a>,
+    term: Term<'a>,
+) -> Result<(Box<GateFile<'a>>, Assignment<'a>), Stop>
     ensures { MatchResult result (λ r. (file_of r.0.value ≡ (chain_of chain.entry).file) × (assignment_of r.1 ≡ machine.assignment_with (chain_of chain.entry) (term_of term.entry))) (λ e. e ≡ Stop.Memory) }
 {
     let Chain {
