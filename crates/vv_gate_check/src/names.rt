@@ -18,6 +18,17 @@ pub(crate) struct Names<'a> {
     outputs: HashSet<&'a [u8]>,
 }
 
+/// How many ports of a direction the groups have.
+fn count(groups: &[Group<'_>], input: bool) -> usize {
+    let mut ports: usize = 0;
+    for group in groups {
+        if group.input == input {
+            ports = ports.saturating_add(group.idents.len());
+        }
+    }
+    ports
+}
+
 /// Adds a name, or answers its place if these names or the others have it.
 fn add<'a>(
     names: &mut HashSet<&'a [u8]>,
@@ -33,13 +44,14 @@ fn add<'a>(
 }
 
 impl<'a> Names<'a> {
-    pub(crate) fn new(alloc: Global) -> Self
-        ensures { IsEmpty result }
+    /// No names, with room for those of the groups.
+    pub(crate) fn new(alloc: Global, groups: &[Group<'_>]) -> Result<Self, AllocError>
+        ensures { IfOk result IsEmpty }
     {
-        Names {
-            inputs: HashSet::new(alloc),
-            outputs: HashSet::new(alloc),
-        }
+        Ok(Names {
+            inputs: HashSet::with_capacity(alloc, count(groups, true))?,
+            outputs: HashSet::with_capacity(alloc, count(groups, false))?,
+        })
     }
 
     /// Adds a port, or answers its place if its name is there.

@@ -16,7 +16,7 @@ fn first_place(alloc: Global, file: &GateFile<'_>, top: &[u8]) -> Result<Option<
     if top != file.entity.text {
         return Ok(Some(0));
     }
-    let mut names = Names::new(alloc);
+    let mut names = Names::new(alloc, &file.groups)?;
     let repeated = names.declare_all(&file.groups)?;
     if repeated.is_some() {
         return Ok(repeated);

@@ -126,7 +126,7 @@ fn targets<'a>(
 ) -> Result<HashSet<&'a [u8]>, AllocError>
     ensures { IfOk result (λ s. (q : List ℕ) → contains_by (λ k. bytes_eq q k.now) s ≡ is_assigned (map assignment_of assignments.now) q) }
 {
-    let mut names = HashSet::new(alloc);
+    let mut names = HashSet::with_capacity(alloc, assignments.len())?;
     for assignment in assignments {
         names.insert(assignment.target.text)?;
     }
