@@ -10,6 +10,7 @@ fails, and with 2 where there is no program.
 """
 
 import os
+import random
 import subprocess
 import sys
 import tempfile
@@ -88,6 +89,29 @@ def short_assignments():
     return Case("16 MiB of assignments of one term", filled(file), ports=len(names) + 1, assigns=len(names))
 
 
+def short_name(number):
+    """The name with this number: y and the digits of the number in base 36."""
+    digits = []
+    while True:
+        digits.append(b"abcdefghijklmnopqrstuvwxyz0123456789"[number % 36])
+        number //= 36
+        if number == 0:
+            return b"y" + bytes(digits)
+
+
+def mixed_outputs(what, uses, behind):
+    """As many outputs with short names as fit, in no order of their names. Each name stands `uses` times, with `behind` bytes besides."""
+    names, size = [], 200
+    while size + uses * 6 + behind < MOST:
+        names.append(short_name(len(names)))
+        size += uses * len(names[-1]) + behind
+    random.Random(1).shuffle(names)
+    entity = b"entity gate is port (a : in std_logic; " + b",".join(names) + b" : out std_logic); end;\n"
+    targets = random.Random(2).sample(names, len(names)) if uses == 2 else []
+    file = gate(b"".join(name + b"<=a;" for name in targets), entity)
+    return Case(what, filled(file), ports=len(names) + 1, assigns=len(names))
+
+
 def repeated(what, start, piece, end, line):
     """16 MiB of a piece that stands again and again."""
     count = (MOST - len(start) - len(end)) // len(piece)
@@ -137,6 +161,8 @@ def cases():
     yield Case("16 MiB of (", b"(" * MOST, "1:1: Y1")
     yield long_architecture()
     yield short_assignments()
+    yield mixed_outputs("16 MiB of assignments of one term, mixed", 2, 6)
+    yield mixed_outputs("16 MiB of outputs that are not assigned, mixed", 1, 1)
     # `y<=a;` is 5 bytes, so the second target stands in column 33 + 5
     yield repeated("16 MiB of one assignment", CONTEXT + ENTITY + BEGIN, b"y<=a;", END, "3:38: N1")
     yield repeated(

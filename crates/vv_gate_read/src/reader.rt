@@ -321,11 +321,15 @@ fn at_statement<'a>(
     }
     match token.symbol {
         Symbol::Name(text) => {
+            // A Vec makes room for four terms at its first push, and the most memory goes to chains of one.
+            let Ok(terms) = Vec::with_capacity(alloc, 1) else {
+                return Err(Stop::Memory);
+            };
             let chain = Chain {
                 file,
                 target: Ident { text, at: token.at },
                 operator: None,
-                terms: Vec::new(alloc),
+                terms,
             };
             wait(&ARROW, Place::Term(chain))
         }
