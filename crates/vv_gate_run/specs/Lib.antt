@@ -1,0 +1,6 @@
+pub mod Circuit
+pub mod Flat
+pub mod Numbered
+pub mod Order
+pub mod Verilog
+pub mod Vhdl

@@ -1,0 +1,9 @@
+pub mod Order
+pub mod Digits
+pub mod Worth
+pub mod Reading
+pub mod Moved
+pub mod Joined
+pub mod Elements
+pub mod Integers
+pub mod Resized

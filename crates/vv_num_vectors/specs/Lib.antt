@@ -1,0 +1,5 @@
+pub mod Rows
+pub mod Operands
+pub mod Comparison
+pub mod Logic
+pub mod Parts
