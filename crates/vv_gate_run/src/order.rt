@@ -18,7 +18,8 @@ pub enum Order {
 /// Why a run was not brought to its end.
 #[derive(Clone, Copy, Debug, PartialEq, Eq, Error)]
 pub enum RunFault {
-    /// It has not ended after three steps for each assignment, and three more.
+    /// It has not ended after three turns or steps for each process or item, and three more; or an
+    /// item is pending that is not there.
     #[error("the run has not ended")]
     Endless,
     /// An allocation failed.
