@@ -7,15 +7,16 @@ ghost use Rattle.vv_gate_check.specs.Names.{inputs_in, names_in, Adds, Declares,
 
 use std::alloc::{AllocError, Global};
 use std::collections::HashSet;
+use vv_gate::hash::{Seed, SeededState};
 use vv_gate::tree::{Assignment, Group, Ident, Operand, Term};
 
 /// The names of the ports that may still stand in an assignment.
 #[derive(Drop)]
 pub(crate) struct Names<'a> {
     /// The in ports.
-    inputs: HashSet<&'a [u8]>,
+    inputs: HashSet<&'a [u8], SeededState>,
     /// The out ports that aren't assigned yet.
-    outputs: HashSet<&'a [u8]>,
+    outputs: HashSet<&'a [u8], SeededState>,
 }
 
 /// How many ports of a direction the groups have.
@@ -29,10 +30,25 @@ fn count(groups: &[Group<'_>], input: bool) -> usize {
     ports
 }
 
+fn draw_on(seed: &mut Seed, group: &Group<'_>) {
+    for ident in &group.idents {
+        seed.add(ident.text);
+    }
+}
+
+/// The seed of the names of the groups.
+fn seed(groups: &[Group<'_>]) -> Seed {
+    let mut seed = Seed::new();
+    for group in groups {
+        draw_on(&mut seed, group);
+    }
+    seed
+}
+
 /// Adds a name, or answers its place if these names or the others have it.
 fn add<'a>(
-    names: &mut HashSet<&'a [u8]>,
-    others: &HashSet<&'a [u8]>,
+    names: &mut HashSet<&'a [u8], SeededState>,
+    others: &HashSet<&'a [u8], SeededState>,
     ident: &Ident<'a>,
 ) -> Result<Option<usize>, AllocError>
     ensures { IfOk result (Adds (ident_of ident.now) (names_in others.now) (names_in names.old) (names_in names.new)) }
@@ -48,9 +64,10 @@ impl<'a> Names<'a> {
     pub(crate) fn new(alloc: Global, groups: &[Group<'_>]) -> Result<Self, AllocError>
         ensures { IfOk result IsEmpty }
     {
+        let state = seed(groups).state();
         Ok(Names {
-            inputs: HashSet::with_capacity(alloc, count(groups, true))?,
-            outputs: HashSet::with_capacity(alloc, count(groups, false))?,
+            inputs: HashSet::with_capacity_and_hasher(alloc, count(groups, true), state)?,
+            outputs: HashSet::with_capacity_and_hasher(alloc, count(groups, false), state)?,
         })
     }
 

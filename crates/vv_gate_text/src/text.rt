@@ -17,6 +17,7 @@ use crate::names::write_name;
 use crate::ports::{Port, ports};
 use std::alloc::{AllocError, Global};
 use std::collections::HashSet;
+use vv_gate::hash::{Seed, SeededState};
 use vv_gate::tree::{Assignment, GateFile, Operand, Operator, Term};
 
 /// The sign of an operator.
@@ -119,14 +120,27 @@ fn write_ports(out: &mut Vec<u8>, ports: &[Port<'_>]) -> Result<(), AllocError>
     out.extend_from_slice(b"\n")
 }
 
+/// The seed of the names that the assignments target.
+fn seed(assignments: &[Assignment<'_>]) -> Seed {
+    let mut seed = Seed::new();
+    for assignment in assignments {
+        seed.add(assignment.target.text);
+    }
+    seed
+}
+
 /// The names that the assignments target.
 fn targets<'a>(
     alloc: Global,
     assignments: &[Assignment<'a>],
-) -> Result<HashSet<&'a [u8]>, AllocError>
+) -> Result<HashSet<&'a [u8], SeededState>, AllocError>
     ensures { IfOk result (λ s. (q : List ℕ) → contains_by (λ k. bytes_eq q k.now) s ≡ is_assigned (map assignment_of assignments.now) q) }
 {
-    let mut names = HashSet::with_capacity(alloc, assignments.len())?;
+    let mut names = HashSet::with_capacity_and_hasher(
+        alloc,
+        assignments.len(),
+        seed(assignments).state(),
+    )?;
     for assignment in assignments {
         names.insert(assignment.target.text)?;
     }
@@ -137,7 +151,7 @@ fn targets<'a>(
 fn write_idles(
     out: &mut Vec<u8>,
     ports: &[Port<'_>],
-    targets: &HashSet<&[u8]>,
+    targets: &HashSet<&[u8], SeededState>,
 ) -> Result<(), AllocError>
     ensures { OnOk result (out.new.items ≡ out.old.items ++ flat_map written_item (map made_idle (filter (λ p. not p.input && not (contains_by (λ k. bytes_eq p.ident.text k.now) targets.now)) (map port_of ports.now)))) }
 {
