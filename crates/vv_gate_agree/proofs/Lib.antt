@@ -6,3 +6,4 @@ pub mod Rows
 pub mod Laws
 pub mod Instances
 pub mod Meaning
+pub mod Idle

@@ -1,3 +1,4 @@
 pub mod Agreement
 pub mod Runs
 pub mod Meaning
+pub mod Examples
