@@ -15,9 +15,8 @@ use vv_gate_read::reader::read;
 use vv_gate_run::flat::Flat;
 use vv_gate_run::order::Order;
 use vv_gate_run::ports::{Port, ports};
-use vv_gate_run::verilog;
-use vv_gate_run::vhdl;
 use vv_gate_run::vhdl::Entry;
+use vv_gate_run::{verilog, vhdl};
 
 /// The output `w` is never assigned.
 const FILE: &[u8] = b"library ieee; use ieee.std_logic_1164.all;

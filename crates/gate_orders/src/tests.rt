@@ -4,9 +4,8 @@ use std::test::Fail;
 use vv_bits::{S9, V4};
 use vv_gate_read::reader::read;
 use vv_gate_run::flat::Flat;
-use vv_gate_run::verilog;
-use vv_gate_run::vhdl;
 use vv_gate_run::vhdl::{Entry, Turn};
+use vv_gate_run::{verilog, vhdl};
 
 /// At power-on each process is ready, and the nets are not updated; a process that has run is not
 /// ready.
@@ -22,7 +21,11 @@ fn a_turn(rt: HostRuntime) -> Result<(), Fail> {
         (Turn::Update, false),
     ];
     for (turn, can) in turns {
-        assert_eq!(rt; vhdl::can_turn(alloc, &file, &start, turn)?, can, "{turn:?}");
+        assert_eq!(rt;
+            vhdl::can_turn(alloc, &file, &start, turn)?,
+            can,
+            "{turn:?}"
+        );
     }
     let after = vhdl::take(alloc, &file, &start, Turn::Resume(0))?;
     assert!(rt; !vhdl::can_turn(alloc, &file, &after, Turn::Resume(0))?);
