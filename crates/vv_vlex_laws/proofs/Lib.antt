@@ -1,0 +1,10 @@
+pub mod Grouped
+pub mod Strings
+pub mod Numbers
+pub mod Widest
+pub mod Letters
+pub mod Digits
+pub mod Signs
+pub mod Wide
+pub mod Cuts
+pub mod Spellings
