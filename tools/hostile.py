@@ -4,7 +4,7 @@
 usage: tools/hostile.py [PROGRAM]
 
 Each case has the status and the printed line that are wanted. Places are worked out from how the file is made, never
-from what the program prints. A case fails where the answer differs, where a file of 16 MiB takes over 2 seconds, and
+from what the program prints. A case fails where the answer differs, where a file of 16 MiB takes over 2 seconds in each of four runs, and
 where a file of a megabyte or more takes over 64 bytes of memory for each of its bytes. Ends with 1 where a case
 fails, and with 2 where there is no program.
 """
@@ -19,6 +19,7 @@ import time
 MOST = 16_777_216  # bytes of a source file
 MEGABYTE = 1_048_576
 MOST_SECONDS = 2.0
+TRIES = 4  # runs of a case that takes longer
 MOST_BYTES_A_BYTE = 64.0
 TIME = "/usr/bin/time"
 
@@ -196,6 +197,15 @@ def measured(program, words, room):
     return ran.returncode, ran.stdout + ran.stderr, seconds, memory
 
 
+def least_of(tries, program, words, room):
+    """The first run that is quick enough, or else the quickest of these many: other work on a machine may slow down any one."""
+    best = measured(program, words, room)
+    while tries > 1 and best[2] > MOST_SECONDS:
+        tries -= 1
+        best = min(best, measured(program, words, room), key=lambda run: run[2])
+    return best
+
+
 def faults_of(case, status, said, seconds, memory, room):
     found = []
     wanted = f"g.vhd:{case.line}\n".encode() if case.line else b""
@@ -231,7 +241,7 @@ def main():
             with open(f"{room}/g.vhd", "wb") as it:
                 it.write(case.file)
             words = ["translate", "gate", "g.v", "g.csv", "g.vhd"]
-            status, said, seconds, memory = measured(program, words, room)
+            status, said, seconds, memory = least_of(TRIES, program, words, room)
             faults = faults_of(case, status, said, seconds, memory, room)
         size = len(case.file)
         ratio = f"{memory / size:10.1f}" if size >= MEGABYTE else f"{'-':>10}"
