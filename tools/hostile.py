@@ -4,9 +4,9 @@
 usage: tools/hostile.py [PROGRAM]
 
 Each case has the status and the printed line that are wanted. Places are worked out from how the file is made, never
-from what the program prints. A case fails where the answer differs, where a file of 16 MiB takes over 2 seconds in each of four runs, and
-where a file of a megabyte or more takes over 64 bytes of memory for each of its bytes. Ends with 1 where a case
-fails, and with 2 where there is no program.
+from what the program prints. A case fails where the answer differs, where a file of 16 MiB takes over 2 seconds in each
+of four runs, and where a file of a megabyte or more takes over 64 bytes of memory for each of its bytes. Ends with 1
+where a case fails, and with 2 where there is no program.
 """
 
 import os
