@@ -5,3 +5,9 @@ pub mod Checked
 pub mod Followed
 pub mod Plain
 pub mod Readings
+pub mod Acts
+pub mod Seals
+pub mod Paths
+pub mod Bridge
+pub mod Words
+pub mod Ends

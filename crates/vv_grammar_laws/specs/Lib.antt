@@ -1,2 +1,3 @@
 pub mod Derivations
 pub mod Starts
+pub mod Readings

@@ -1,14 +1,36 @@
 //! Laws of the grammar. Each function does nothing: its contract is the law.
 
-ghost use Rattle.std.specs.Prelude.{◌≡◌, List};
+ghost use Rattle.std.specs.Prelude.{◌≡◌, ℕ, List, [], drop};
 ghost use Rattle.vv_grammar.specs.declared.event.Event.{Event};
+ghost use Rattle.vv_grammar.specs.declared.machine.Stop.TheVariants.{Misplaced};
 ghost use Rattle.vv_grammar.specs.declared.terminal.Terminal.{Terminal};
+ghost use Rattle.vv_grammar.specs.Machine.{Halts, Leads, starting_with};
 ghost use Rattle.vv_grammar_laws.specs.Derivations.{Derives};
-ghost use Rattle.vv_grammar_laws.specs.Starts.{Start, steps_for};
+ghost use Rattle.vv_grammar_laws.specs.Readings.{IsReading, IsRefusal};
+ghost use Rattle.vv_grammar_laws.specs.Starts.{Start, steps_for, terminals};
 
 use vv_grammar::edition::Edition;
+use vv_vlex::token::Token;
 
 /// Tokens have at most one reading: whatever alternatives are tried, the same happens.
 pub fn readings_are_one(edition: Edition)
     ensures { (s : Start) (u : List Terminal) (es fs : List Event) → Derives edition (steps_for s) u es → Derives edition (steps_for s) u fs → es ≡ fs }
+{}
+
+/// What the machine reads is derived, and no longer run of the tokens could be the start of anything.
+pub fn what_is_read_is_derived(edition: Edition, tokens: &[Token])
+    ensures { (s : Start) (at next : ℕ) (es : List Event) → Leads edition tokens.now (starting_with (steps_for s) at) at es [] next → IsReading edition s tokens.now at next es }
+{}
+
+/// The machine refuses at the first token with which what was read is the start of nothing.
+pub fn refusals_are_exact(edition: Edition, tokens: &[Token])
+    ensures { (s : Start) (at n : ℕ) → Halts edition tokens.now (starting_with (steps_for s) at) at (Misplaced n) → IsRefusal edition s tokens.now at n }
+{}
+
+/// Where all tokens from one on are derived, nothing else is read and none is refused.
+pub fn what_is_derived_is_read(edition: Edition, tokens: &[Token])
+    ensures read { (s : Start) (at next : ℕ) (es fs : List Event) → Derives edition (steps_for s) (drop at (terminals tokens.now)) fs
+        → Leads edition tokens.now (starting_with (steps_for s) at) at es [] next → (es ≡ fs) × (drop next (terminals tokens.now) ≡ []) }
+    ensures never { (s : Start) (at n : ℕ) (fs : List Event) → Derives edition (steps_for s) (drop at (terminals tokens.now)) fs
+        → Halts edition tokens.now (starting_with (steps_for s) at) at (Misplaced n) → ⊥ }
 {}

@@ -1,0 +1,411 @@
+-- Each place derives some tokens, so no steps are a dead end.
+use Rattle.std.proofs.Common.{◌≡◌, ℕ, zero, suc, Bool, true, false, not, ◌||◌, if◌then◌else◌, List, [], ◌∷◌, ◌++◌, Option, Some, None, refl, sym, ap, ◌∙◌, subst, append_assoc}
+use Rattle.std.proofs.lemmas.Bool.{true≢false, false≢true, eq-eqb}
+use Rattle.vv_grammar.specs.declared.edition.Edition.{Edition}
+use Rattle.vv_grammar.specs.declared.edition.Edition.TheVariants as edition
+use Rattle.vv_grammar.specs.declared.event.Event.{Event}
+use Rattle.vv_grammar.specs.declared.event.Event.TheVariants as event
+use Rattle.vv_grammar.specs.declared.place.Place.{Place}
+use Rattle.vv_grammar.specs.declared.place.Place.TheVariants as place
+use Rattle.vv_grammar.specs.declared.step.Step.{Step}
+use Rattle.vv_grammar.specs.declared.step.Step.TheVariants as step
+use Rattle.vv_grammar.specs.declared.step.Take.{Take}
+use Rattle.vv_grammar.specs.declared.step.Take.TheVariants as take
+use Rattle.vv_grammar.specs.declared.terminal.Terminal.{Terminal}
+use Rattle.vv_grammar.specs.declared.terminal.Terminal.TheVariants as the
+use Rattle.vv_grammar.specs.Terminals.{same, contains}
+use Rattle.vv_grammar.specs.Table.{Choice, alternatives, otherwise}
+use Rattle.vv_grammar_laws.specs.Derivations.{IsAmong, first as here, later, left, noted, Derives, done, make, skip, keep, call, pass, stop, is_greedy, has_turn}
+use denote.Enum.Declared.{tag_of}
+use Rattle.vv_vlex.specs.contracts.word.Word as w
+use Rattle.vv_vlex.specs.contracts.sign.Sign as s
+
+pub same-self : (t : Terminal) → same t t ≡ true
+same-self the.Id = refl
+same-self the.Int = refl
+same-self the.Char = refl
+same-self the.Str = refl
+same-self the.BitStr = refl
+same-self the.End = refl
+same-self (the.Key a) = eq-eqb (tag_of w.the_type a) (tag_of w.the_type a) refl
+same-self (the.Mark a) = eq-eqb (tag_of s.the_type a) (tag_of s.the_type a) refl
+
+-- the alternative by which a place ends soonest, if not by what it admits else
+abbrev pub pick : Place → Option ℕ
+pick place.Expression = Some 0
+pick place.ExpressionBehindIdent = Some 0
+pick place.Factor = Some 0
+pick place.Power = Some 0
+pick place.Primary = Some 1
+pick place.BehindTick = Some 0
+pick place.Argument = Some 0
+pick place.BehindFirst = Some 0
+pick place.AggregateElements = Some 0
+pick place.BehindFirstElement = Some 3
+pick place.BehindChoices = Some 1
+pick place.Choice = Some 0
+pick place.DiscreteRange = Some 0
+pick place.DiscreteRangeBehindMark = Some 1
+pick place.TypeMark = Some 0
+pick place.Name = Some 0
+pick place.Declaration = Some 8
+pick place.PackageDeclaration = Some 7
+pick place.BodyDeclaration = Some 3
+pick place.ProcessDeclaration = Some 4
+pick place.FunctionEnd = Some 0
+pick place.FunctionBody = Some 0
+pick place.Designator = Some 0
+pick place.ConstantInterface = Some 1
+pick place.PortInterface = Some 1
+pick place.TypeDefinition = Some 0
+pick place.EnumerationLiteral = Some 0
+pick place.ArrayIndex = Some 0
+pick place.ArrayIndexBehindMark = Some 1
+pick place.ArrayIndexBehindRange = Some 0
+pick place.BehindAttribute = Some 0
+pick place.EntityDesignator = Some 0
+pick place.EntityClass = Some 0
+pick place.SelectedName = Some 0
+pick place.Suffix = Some 0
+pick place.Concurrent = Some 1
+pick place.ConcurrentBehindIdent = Some 0
+pick place.LabelledConcurrent = Some 0
+pick place.ConcurrentBehindMark = Some 3
+pick place.Association = Some 1
+pick place.AssociationBehindIdent = Some 0
+pick place.ActualPart = Some 0
+pick place.SensitivityNames = Some 0
+pick place.ConditionalRest = Some 0
+pick place.GenerateRest = Some 0
+pick place.Statement = Some 9
+pick place.StatementBehindIdent = Some 0
+pick place.LabelledStatement = Some 9
+pick place.LoopRest = Some 0
+pick place.AssignmentRest = Some 0
+pick place.Unit = Some 2
+pick place.UnitBehindContext = Some 2
+pick place.BehindPackage = Some 0
+pick _ = None
+
+abbrev pub glued : Option (List Terminal) → Option (List Terminal) → Option (List Terminal)
+glued None o = None
+glued (Some x) None = None
+glued (Some x) (Some y) = Some (x ++ y)
+
+-- a word of steps, by words of places
+abbrev pub made : (Place → Option (List Terminal)) → List Step → Option (List Terminal)
+made f [] = Some []
+made f (step.Make x ∷ R) = made f R
+made f (step.Skip t ∷ R) = glued (Some (t ∷ [])) (made f R)
+made f (step.Keep t ∷ R) = glued (Some (t ∷ [])) (made f R)
+made f (step.Call p ∷ R) = glued (f p) (made f R)
+made f (step.Many p ∷ R) = made f R
+
+-- a word of an alternative, by a word of its steps
+abbrev pub taken : Take → List Terminal → List Terminal → Option (List Terminal)
+taken take.Keep [] y = None
+taken take.Keep (t ∷ on) y = Some (t ∷ y)
+taken take.Skip [] y = None
+taken take.Skip (t ∷ on) y = Some (t ∷ y)
+taken take.Look on [] = None
+taken take.Look on (t ∷ y) = if contains on t then Some (t ∷ y) else None
+
+abbrev pub taken_by : Choice → Option (List Terminal) → Option (List Terminal)
+taken_by c None = None
+taken_by c (Some y) = taken c.take c.on y
+
+abbrev pub alternative : List Choice → ℕ → (Place → Option (List Terminal)) → Option (List Terminal)
+alternative [] i f = None
+alternative (c ∷ cs) zero f = taken_by c (made f c.steps)
+alternative (c ∷ cs) (suc i) f = alternative cs i f
+
+abbrev pub else_word : Bool → Option (List Step) → (Place → Option (List Terminal)) → Option (List Terminal)
+else_word true o f = None
+else_word false None f = None
+else_word false (Some ss) f = made f ss
+
+abbrev pub picked : Edition → Place → Option ℕ → (Place → Option (List Terminal)) → Option (List Terminal)
+picked e p (Some i) f = alternative (alternatives e p) i f
+picked e p None f = else_word (is_greedy p) (otherwise p) f
+
+abbrev pub word_of : Edition → ℕ → Place → Option (List Terminal)
+word_of e zero p = None
+word_of e (suc n) p = picked e p (pick p) (word_of e n)
+
+abbrev pub is_found : Option (List Terminal) → Bool
+is_found None = false
+is_found (Some y) = true
+
+pub found : (e : Edition) (p : Place) → is_found (word_of e 10 p) ≡ true
+found e place.Expression = refl
+found e place.ExpressionBehindIdent = refl
+found e place.Combined = refl
+found e place.MoreAnd = refl
+found e place.MoreOr = refl
+found e place.MoreXor = refl
+found e place.MoreXnor = refl
+found e place.Relation = refl
+found e place.Compared = refl
+found e place.ShiftExpression = refl
+found e place.Shifted = refl
+found e place.SimpleExpression = refl
+found e place.Terms = refl
+found e place.MoreTerms = refl
+found e place.Term = refl
+found e place.Factors = refl
+found e place.MoreFactors = refl
+found e place.Factor = refl
+found e place.Power = refl
+found e place.Primary = refl
+found e place.NameParts = refl
+found e place.BehindTick = refl
+found e place.Argument = refl
+found e place.ArgumentBehindIdent = refl
+found e place.MoreArguments = refl
+found e place.Parenthesis = refl
+found e place.BehindFirst = refl
+found e place.AggregateElements = refl
+found e place.BehindFirstElement = refl
+found e place.MoreElements = refl
+found e place.Element = refl
+found e place.BehindElement = refl
+found e place.BehindChoices = refl
+found e place.Choice = refl
+found e place.MoreChoices = refl
+found e place.Range = refl
+found e place.RangeEnd = refl
+found e place.DiscreteRange = refl
+found e place.DiscreteRangeBehindMark = refl
+found e place.MarkParts = refl
+found e place.MoreIdents = refl
+found e place.Constraint = refl
+found e place.TypeMark = refl
+found e place.Name = refl
+found e place.Choices = refl
+found e place.SubtypeIndication = refl
+found e place.Declaration = refl
+found e place.PackageDeclaration = refl
+found e place.BodyDeclaration = refl
+found e place.ProcessDeclaration = refl
+found e place.FunctionEnd = refl
+found e place.FunctionBody = refl
+found e place.Designator = refl
+found e place.EndFunction = refl
+found e place.EndDesignator = refl
+found e place.Parameters = refl
+found e place.ConstantInterface = refl
+found e place.ConstantInterfaceRest = refl
+found e place.MoreConstantInterfaces = refl
+found e place.ModeIn = refl
+found e place.Default = refl
+found e place.Generics = refl
+found e place.Ports = refl
+found e place.PortInterface = refl
+found e place.PortInterfaceRest = refl
+found e place.MorePortInterfaces = refl
+found e place.Mode = refl
+found e place.TypeDefinition = refl
+found e place.EnumerationLiteral = refl
+found e place.MoreEnumerationLiterals = refl
+found e place.ArrayIndex = refl
+found e place.ArrayIndexBehindMark = refl
+found e place.ArrayIndexBehindRange = refl
+found e place.BehindAttribute = refl
+found e place.EntityDesignator = refl
+found e place.MoreEntityDesignators = refl
+found e place.EntityClass = refl
+found e place.SelectedName = refl
+found e place.MoreSelectedNames = refl
+found e place.SelectedSuffix = refl
+found e place.Suffix = refl
+found e place.TypeRest = refl
+found e place.SubtypeRest = refl
+found e place.ObjectRest = refl
+found e place.FunctionRest = refl
+found e place.ComponentRest = refl
+found e place.AttributeRest = refl
+found e place.Concurrent = refl
+found e place.ConcurrentBehindIdent = refl
+found e place.LabelledConcurrent = refl
+found e place.ConcurrentBehindMark = refl
+found e place.BehindWaveform = refl
+found e place.BehindCondition = refl
+found e place.MoreSelections = refl
+found e place.Report = refl
+found e place.Severity = refl
+found e place.OptionalArchitecture = refl
+found e place.GenericMap = refl
+found e place.PortMap = refl
+found e place.Association = refl
+found e place.AssociationBehindIdent = refl
+found e place.ActualPart = refl
+found e place.MoreAssociations = refl
+found e place.GenerateDeclarations = refl
+found e place.Sensitivity = refl
+found edition.Vhdl93 place.SensitivityNames = refl
+found edition.Vhdl08 place.SensitivityNames = refl
+found e place.MoreNames = refl
+found e place.OptionalIs = refl
+found e place.EndName = refl
+found e place.ProcessRest = refl
+found e place.SelectRest = refl
+found e place.ConditionalRest = refl
+found e place.AssertionRest = refl
+found e place.InstanceRest = refl
+found e place.GenerateRest = refl
+found e place.Statement = refl
+found e place.StatementBehindIdent = refl
+found e place.LabelledStatement = refl
+found e place.MoreIfArms = refl
+found e place.ElseArm = refl
+found e place.MoreCaseArms = refl
+found e place.OptionalName = refl
+found e place.OptionalWhen = refl
+found e place.IfRest = refl
+found e place.CaseRest = refl
+found e place.LoopRest = refl
+found e place.LoopBody = refl
+found e place.ExitRest = refl
+found e place.AssignmentRest = refl
+found e place.Unit = refl
+found e place.UnitBehindContext = refl
+found e place.BehindPackage = refl
+found e place.EndPackage = refl
+found e place.EndBody = refl
+found e place.EndEntity = refl
+found e place.EndArchitecture = refl
+found e place.EntityRest = refl
+found e place.ArchitectureRest = refl
+found e place.LibraryRest = refl
+found e place.UseRest = refl
+
+pub record Derived (e : Edition) (K : List Step) (u : List Terminal) : Type 0 where
+  pub events : List Event
+  pub derives : Derives e K u events
+
+-- the word is derived before all that is derived
+abbrev pub IsWord : Edition → List Step → List Terminal → Type 0
+IsWord e R y = (K : List Step) (v : List Terminal) (fs : List Event) → Derives e K v fs → Derived e (R ++ K) (y ++ v)
+
+abbrev pub OnWord : (List Terminal → Type 0) → Option (List Terminal) → Type 0
+OnWord P None = Unit {0}
+OnWord P (Some y) = P y
+
+glued-word : (P Q R : List Terminal → Type 0) (a b : Option (List Terminal)) → ((x y : List Terminal) → P x → Q y → R (x ++ y)) → OnWord P a → OnWord Q b → OnWord R (glued a b)
+glued-word P Q R None b j h k = tt
+glued-word P Q R (Some x) None j h k = tt
+glued-word P Q R (Some x) (Some y) j h k = j x y h k
+
+on-word : (P Q : List Terminal → Type 0) (a : Option (List Terminal)) → ((x : List Terminal) → P x → Q x) → OnWord P a → OnWord Q a
+on-word P Q None j h = tt
+on-word P Q (Some x) j h = j x h
+
+joined-word : (e : Edition) (p : Place) (R : List Step) (x y : List Terminal) → IsWord e (step.Call p ∷ []) x → IsWord e R y → IsWord e (step.Call p ∷ R) (x ++ y)
+joined-word e p R x y a b K v fs d =
+    let i = b K v fs d in
+    subst (λ (z : List Terminal). Derived e (step.Call p ∷ (R ++ K)) z) (sym (append_assoc x y v)) (a (R ++ K) (y ++ v) i.events i.derives)
+
+made-word : (e : Edition) (f : Place → Option (List Terminal)) → ((p : Place) → OnWord (IsWord e (step.Call p ∷ [])) (f p)) → (R : List Step) → OnWord (IsWord e R) (made f R)
+made-word e f h [] = λ K v fs d. record { events = fs; derives = d }
+made-word e f h (step.Make x ∷ R) =
+    on-word (IsWord e R) (IsWord e (step.Make x ∷ R)) (made f R)
+    (λ y g K v fs d. let i = g K v fs d in record { events = event.Make x ∷ i.events; derives = make x (R ++ K) (y ++ v) i.events i.derives })
+    (made-word e f h R)
+made-word e f h (step.Skip t ∷ R) =
+    glued-word (λ x. x ≡ t ∷ []) (IsWord e R) (IsWord e (step.Skip t ∷ R)) (Some (t ∷ [])) (made f R)
+    (λ x y i g K v fs d. subst (λ (z : List Terminal). Derived e (step.Skip t ∷ (R ++ K)) ((z ++ y) ++ v)) (sym i) (let j = g K v fs d in
+    record { events = event.Skip ∷ j.events; derives = skip t t (R ++ K) (y ++ v) j.events (same-self t) j.derives }))
+    refl (made-word e f h R)
+made-word e f h (step.Keep t ∷ R) =
+    glued-word (λ x. x ≡ t ∷ []) (IsWord e R) (IsWord e (step.Keep t ∷ R)) (Some (t ∷ [])) (made f R)
+    (λ x y i g K v fs d. subst (λ (z : List Terminal). Derived e (step.Keep t ∷ (R ++ K)) ((z ++ y) ++ v)) (sym i) (let j = g K v fs d in
+    record { events = event.Keep ∷ j.events; derives = keep t t (R ++ K) (y ++ v) j.events (same-self t) j.derives }))
+    refl (made-word e f h R)
+made-word e f h (step.Call p ∷ R) =
+    glued-word (IsWord e (step.Call p ∷ [])) (IsWord e R) (IsWord e (step.Call p ∷ R)) (f p) (made f R) (joined-word e p R) (h p) (made-word e f h R)
+made-word e f h (step.Many p ∷ R) =
+    on-word (IsWord e R) (IsWord e (step.Many p ∷ R)) (made f R)
+    (λ y g K v fs d. let i = g K v fs d in record { events = i.events; derives = stop p (R ++ K) (y ++ v) i.events i.derives })
+    (made-word e f h R)
+
+or-first : (x y : Bool) → x ≡ true → (x || y) ≡ true
+or-first true y h = refl
+or-first false y h = absurd (false≢true h)
+
+-- a word of the steps of an alternative, with its token before it or first in it
+chosen-word : (e : Edition) (p : Place) (c : Choice) (t : Terminal) (y u v : List Terminal) → IsAmong c (alternatives e p) → contains c.on t ≡ true
+    → IsWord e c.steps y → left c.take t (u ++ v) ≡ y ++ v
+    → (K : List Step) (fs : List Event) → Derives e K v fs → Derived e (step.Call p ∷ K) (t ∷ (u ++ v))
+chosen-word e p c t y u v a h g r K fs d =
+    let i = g K v fs d in
+    record { events = noted c.take ++ i.events; derives = call p c t K (u ++ v) i.events a h (subst (λ (z : List Terminal). Derives e (c.steps ++ K) z i.events) (sym r) i.derives) }
+
+taken-word : (e : Edition) (p : Place) (c : Choice) (y : List Terminal) → IsAmong c (alternatives e p) → IsWord e c.steps y
+    → (k : Take) (on : List Terminal) → c.take ≡ k → c.on ≡ on → OnWord (IsWord e (step.Call p ∷ [])) (taken k on y)
+taken-word e p c y a g take.Keep [] i j = tt
+taken-word e p c y a g take.Keep (t ∷ on) i j = λ K v fs d.
+    chosen-word e p c t y y v a (ap (λ (x : List Terminal). contains x t) j ∙ or-first (same t t) (contains on t) (same-self t))
+    g (ap (λ (x : Take). left x t (y ++ v)) i) K fs d
+taken-word e p c y a g take.Skip [] i j = tt
+taken-word e p c y a g take.Skip (t ∷ on) i j = λ K v fs d.
+    chosen-word e p c t y y v a (ap (λ (x : List Terminal). contains x t) j ∙ or-first (same t t) (contains on t) (same-self t))
+    g (ap (λ (x : Take). left x t (y ++ v)) i) K fs d
+taken-word e p c [] a g take.Look on i j = tt
+taken-word e p c (t ∷ y) a g take.Look on i j = go (contains on t) refl
+  where
+    go : (b : Bool) → contains on t ≡ b → OnWord (IsWord e (step.Call p ∷ [])) (if b then Some (t ∷ y) else None)
+    go false h = tt
+    go true h = λ K v fs d.
+        chosen-word e p c t (t ∷ y) y v a (ap (λ (x : List Terminal). contains x t) j ∙ h) g (ap (λ (x : Take). left x t (y ++ v)) i) K fs d
+
+taken-by-word : (e : Edition) (p : Place) (c : Choice) (o : Option (List Terminal)) → IsAmong c (alternatives e p) → OnWord (IsWord e c.steps) o → OnWord (IsWord e (step.Call p ∷ [])) (taken_by c o)
+taken-by-word e p c None a h = tt
+taken-by-word e p c (Some y) a h = taken-word e p c y a h c.take c.on refl refl
+
+alternative-word : (e : Edition) (p : Place) (f : Place → Option (List Terminal)) → ((q : Place) → OnWord (IsWord e (step.Call q ∷ [])) (f q))
+    → (cs : List Choice) → ((c : Choice) → IsAmong c cs → IsAmong c (alternatives e p)) → (i : ℕ) → OnWord (IsWord e (step.Call p ∷ [])) (alternative cs i f)
+alternative-word e p f h [] a i = tt
+alternative-word e p f h (c ∷ cs) a zero = taken-by-word e p c (made f c.steps) (a c (here c cs)) (made-word e f h c.steps)
+alternative-word e p f h (c ∷ cs) a (suc i) = alternative-word e p f h cs (λ d b. a d (later d c cs b)) i
+
+not-greedy : (g b : Bool) → g ≡ false → (not g || b) ≡ true
+not-greedy true b h = absurd (true≢false h)
+not-greedy false b h = refl
+
+else-found : (e : Edition) (p : Place) (f : Place → Option (List Terminal)) → ((q : Place) → OnWord (IsWord e (step.Call q ∷ [])) (f q))
+    → (g : Bool) (o : Option (List Step)) → is_greedy p ≡ g → otherwise p ≡ o → OnWord (IsWord e (step.Call p ∷ [])) (else_word g o f)
+else-found e p f h true o i j = tt
+else-found e p f h false None i j = tt
+else-found e p f h false (Some ss) i j =
+    on-word (IsWord e ss) (IsWord e (step.Call p ∷ [])) (made f ss)
+    (λ y g K v fs d. let k = g K v fs d in
+    record { events = k.events; derives = pass p ss K (y ++ v) k.events j (not-greedy (is_greedy p) (not (has_turn (alternatives e p) (y ++ v))) i) k.derives })
+    (made-word e f h ss)
+
+picked-word : (e : Edition) (p : Place) (f : Place → Option (List Terminal)) → ((q : Place) → OnWord (IsWord e (step.Call q ∷ [])) (f q))
+    → (i : Option ℕ) → OnWord (IsWord e (step.Call p ∷ [])) (picked e p i f)
+picked-word e p f h (Some i) = alternative-word e p f h (alternatives e p) (λ c a. a) i
+picked-word e p f h None = else-found e p f h (is_greedy p) (otherwise p) refl refl
+
+pub word-of : (e : Edition) (n : ℕ) (p : Place) → OnWord (IsWord e (step.Call p ∷ [])) (word_of e n p)
+word-of e zero p = tt
+word-of e (suc n) p = picked-word e p (word_of e n) (word-of e n) (pick p)
+
+some-word : (e : Edition) (p : Place) (o : Option (List Terminal)) → is_found o ≡ true → OnWord (IsWord e (step.Call p ∷ [])) o → (y : List Terminal) × IsWord e (step.Call p ∷ []) y
+some-word e p None h g = absurd (false≢true h)
+some-word e p (Some y) h g = (y, g)
+
+place-word : (e : Edition) (p : Place) → (y : List Terminal) × IsWord e (step.Call p ∷ []) y
+place-word e p = some-word e p (word_of e 10 p) (found e p) (word-of e 10 p)
+
+-- Steps derive something.
+pub productive : (e : Edition) (K : List Step) → (u : List Terminal) × Derived e K u
+productive e [] = ([], record { events = []; derives = done })
+productive e (step.Make f ∷ K) = let r = productive e K in (r.0, record { events = event.Make f ∷ r.1.events; derives = make f K r.0 r.1.events r.1.derives })
+productive e (step.Skip t ∷ K) = let r = productive e K in (t ∷ r.0, record { events = event.Skip ∷ r.1.events; derives = skip t t K r.0 r.1.events (same-self t) r.1.derives })
+productive e (step.Keep t ∷ K) = let r = productive e K in (t ∷ r.0, record { events = event.Keep ∷ r.1.events; derives = keep t t K r.0 r.1.events (same-self t) r.1.derives })
+productive e (step.Many p ∷ K) = let r = productive e K in (r.0, record { events = r.1.events; derives = stop p K r.0 r.1.events r.1.derives })
+productive e (step.Call p ∷ K) =
+    let r = productive e K in
+    let y = place-word e p in
+    (y.0 ++ r.0, y.1 K r.0 r.1.events r.1.derives)

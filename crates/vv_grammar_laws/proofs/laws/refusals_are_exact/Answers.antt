@@ -1,0 +1,5 @@
+use Rattle.vv_grammar_laws.proofs.Ends.{refuses}
+use Rattle.vv_grammar_laws.proofs.laws.refusals_are_exact.Goals as goal
+
+pub returns : goal.returns
+returns c = λ s at n h. refuses c.args.edition s c.args.tokens.now at n h

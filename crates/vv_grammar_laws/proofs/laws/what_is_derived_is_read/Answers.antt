@@ -1,0 +1,8 @@
+use Rattle.vv_grammar_laws.proofs.Ends.{read_whole, never_refused}
+use Rattle.vv_grammar_laws.proofs.laws.what_is_derived_is_read.Goals as goal
+
+pub returns-clause-read : goal.returns-clause-read
+returns-clause-read c = λ s at next es fs d l. read_whole c.args.edition s c.args.tokens.now at next es fs d l
+
+pub returns-clause-never : goal.returns-clause-never
+returns-clause-never c = λ s at n fs d h. never_refused c.args.edition s c.args.tokens.now at n fs d h

@@ -1,0 +1,24 @@
+-- What the machine has read, and why it refuses, told by derivations alone.
+use Rattle.std.specs.Prelude.{◌≡◌, ℕ, List, [], ◌∷◌, ◌++◌, Some, None}
+use Rattle.vv_vlex.specs.declared.token.Token.{Token}
+use Rattle.vv_grammar.specs.declared.edition.Edition.{Edition}
+use Rattle.vv_grammar.specs.declared.event.Event.{Event}
+use Rattle.vv_grammar.specs.declared.terminal.Terminal.{Terminal}
+use Rattle.vv_grammar.specs.Machine.{next_terminal}
+use Rattle.vv_grammar_laws.specs.Derivations.{Derives, IsViable}
+use Rattle.vv_grammar_laws.specs.Starts.{Start, steps_for, AreBetween}
+
+-- The tokens from a up to b are derived, and with the next token they are the start of nothing.
+pub record IsReading (e : Edition) (s : Start) (ts : List Token) (a b : ℕ) (es : List Event) : Type 0 where
+  pub tokens : List Terminal
+  pub between : AreBetween ts a b tokens
+  pub derives : Derives e (steps_for s) tokens es
+  pub longest : (t : Terminal) → next_terminal ts b ≡ Some t → IsViable e (steps_for s) (tokens ++ (t ∷ [])) → ⊥
+
+-- The tokens from a up to n are the start of something; with token n they are not, and where there is no token n they are not all of it.
+pub record IsRefusal (e : Edition) (s : Start) (ts : List Token) (a n : ℕ) : Type 0 where
+  pub tokens : List Terminal
+  pub between : AreBetween ts a n tokens
+  pub viable : IsViable e (steps_for s) tokens
+  pub never : (t : Terminal) → next_terminal ts n ≡ Some t → IsViable e (steps_for s) (tokens ++ (t ∷ [])) → ⊥
+  pub ends : (es : List Event) → next_terminal ts n ≡ None → Derives e (steps_for s) tokens es → ⊥
