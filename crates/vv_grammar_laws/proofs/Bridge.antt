@@ -159,3 +159,23 @@ moved e ts K L M a b c es fs w m =
 pub way : (e : Edition) (ts : List Token) (K : List Pending) (a : ℕ) (es : List Event) (L : List Pending) (b : ℕ) → Leads e ts K a es L b → IsWay e ts K a es L b
 way e _ _ _ _ _ _ (here _ ts K at) = record { tokens = []; between = record { split = refl; size = omega arith }; path = path.here }
 way e _ _ _ _ _ _ (further _ ts K L M a b c es fs l m) = moved e ts K L M a b c es fs (way e ts K a es L b l) m
+
+drop-nil : (i : ℕ) → drop i (let xs : List Terminal = [] in xs) ≡ []
+drop-nil zero = refl
+drop-nil (suc i) = refl
+
+drop-after : (xs : List Terminal) (a : ℕ) → drop (a + 1) xs ≡ behind true (drop a xs)
+drop-after xs a = go (drop a xs) refl
+  where
+    none : (ys : List Terminal) (i : ℕ) → drop i ys ≡ [] → drop (i + 1) ys ≡ []
+    none [] i h = drop-nil (i + 1)
+    none (y ∷ ys) zero h = absurd (subst (λ (z : List Terminal). HasHead (head z)) h tt)
+    none (y ∷ ys) (suc i) h = ap (λ (k : ℕ). drop k (y ∷ ys)) (let k : suc i + 1 ≡ suc (i + 1) = omega arith in k) ∙ none ys i h
+
+    go : (rest : List Terminal) → drop a xs ≡ rest → drop (a + 1) xs ≡ behind true (drop a xs)
+    go [] h = none xs a h ∙ ap (behind true) (sym h)
+    go (t ∷ rest) h = sym (drop-next xs rest t a h) ∙ ap (behind true) (sym h)
+
+pub drop-past : (b : Bool) (xs : List Terminal) (a : ℕ) → drop (past b a) xs ≡ behind b (drop a xs)
+drop-past true xs a = drop-after xs a
+drop-past false xs a = refl

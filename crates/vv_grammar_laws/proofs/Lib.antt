@@ -11,3 +11,5 @@ pub mod Paths
 pub mod Bridge
 pub mod Words
 pub mod Ends
+pub mod Complete
+pub mod Driven

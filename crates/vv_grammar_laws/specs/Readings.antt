@@ -1,12 +1,13 @@
 -- What the machine has read, and why it refuses, told by derivations alone.
-use Rattle.std.specs.Prelude.{◌≡◌, ℕ, List, [], ◌∷◌, ◌++◌, Some, None}
+use Rattle.std.specs.Prelude.{◌≡◌, ℕ, List, [], ◌∷◌, ◌++◌, Some, None, ◌⊎◌, drop}
 use Rattle.vv_vlex.specs.declared.token.Token.{Token}
 use Rattle.vv_grammar.specs.declared.edition.Edition.{Edition}
 use Rattle.vv_grammar.specs.declared.event.Event.{Event}
+use Rattle.vv_grammar.specs.declared.machine.Stop.TheVariants.{Deep}
 use Rattle.vv_grammar.specs.declared.terminal.Terminal.{Terminal}
-use Rattle.vv_grammar.specs.Machine.{next_terminal}
+use Rattle.vv_grammar.specs.Machine.{next_terminal, starting_with, Leads, Halts}
 use Rattle.vv_grammar_laws.specs.Derivations.{Derives, IsViable}
-use Rattle.vv_grammar_laws.specs.Starts.{Start, steps_for, AreBetween}
+use Rattle.vv_grammar_laws.specs.Starts.{Start, steps_for, terminals, AreBetween}
 
 -- The tokens from a up to b are derived, and with the next token they are the start of nothing.
 pub record IsReading (e : Edition) (s : Start) (ts : List Token) (a b : ℕ) (es : List Event) : Type 0 where
@@ -22,3 +23,9 @@ pub record IsRefusal (e : Edition) (s : Start) (ts : List Token) (a n : ℕ) : T
   pub viable : IsViable e (steps_for s) tokens
   pub never : (t : Terminal) → next_terminal ts n ≡ Some t → IsViable e (steps_for s) (tokens ++ (t ∷ [])) → ⊥
   pub ends : (es : List Event) → next_terminal ts n ≡ None → Derives e (steps_for s) tokens es → ⊥
+
+-- The machine reads all tokens from a on, and these events happen; or something is too deep for it.
+abbrev pub IsReadWhole : Edition → Start → List Token → ℕ → List Event → Type 0
+IsReadWhole e s ts a es =
+    ((b : ℕ) × Leads e ts (starting_with (steps_for s) a) a es [] b × (drop b (terminals ts) ≡ []))
+    ⊎ ((n : ℕ) × Halts e ts (starting_with (steps_for s) a) a (Deep n))

@@ -1,13 +1,9 @@
 -- What is read as a whole: the steps that the machine begins with, and stretches of tokens.
-use Rattle.std.specs.Prelude.{◌≡◌, ℕ, ◌+◌, List, [], ◌∷◌, ◌++◌, map, drop, length}
+use Rattle.std.specs.Prelude.{◌≡◌, ℕ, ◌+◌, List, ◌++◌, map, drop, length}
 use Rattle.vv_vlex.specs.declared.token.Token.{Token}
-use Rattle.vv_grammar.specs.declared.form.Form.TheVariants as form
-use Rattle.vv_grammar.specs.declared.place.Place.TheVariants as place
-use Rattle.vv_vlex.specs.declared.sign.Sign.TheVariants as sign
+use Rattle.vv_grammar.specs.declared.starts.TheConstants as starts
 use Rattle.vv_grammar.specs.declared.step.Step.{Step}
-use Rattle.vv_grammar.specs.declared.step.Step.TheVariants as step
 use Rattle.vv_grammar.specs.declared.terminal.Terminal.{Terminal}
-use Rattle.vv_grammar.specs.declared.terminal.Terminal.TheVariants as terminal
 use Rattle.vv_grammar.specs.Terminals.{kind_of}
 
 pub data Start : Type 0 where
@@ -18,10 +14,10 @@ pub data Start : Type 0 where
   aggregate : Start
 
 abbrev pub steps_for : Start → List Step
-steps_for file = step.Make form.Empty ∷ step.Many place.Unit ∷ step.Skip terminal.End ∷ []
-steps_for expression = step.Call place.Expression ∷ []
-steps_for name = step.Call place.Name ∷ []
-steps_for aggregate = step.Keep (terminal.Mark sign.Open) ∷ step.Call place.AggregateElements ∷ []
+steps_for file = starts.FILE
+steps_for expression = starts.EXPRESSION
+steps_for name = starts.NAME
+steps_for aggregate = starts.AGGREGATE
 
 abbrev pub terminals : List Token → List Terminal
 terminals ts = map (λ t. kind_of t.kind) ts

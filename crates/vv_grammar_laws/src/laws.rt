@@ -4,9 +4,9 @@ ghost use Rattle.std.specs.Prelude.{◌≡◌, ℕ, List, [], drop};
 ghost use Rattle.vv_grammar.specs.declared.event.Event.{Event};
 ghost use Rattle.vv_grammar.specs.declared.machine.Stop.TheVariants.{Misplaced};
 ghost use Rattle.vv_grammar.specs.declared.terminal.Terminal.{Terminal};
-ghost use Rattle.vv_grammar.specs.Machine.{Halts, Leads, starting_with};
+ghost use Rattle.vv_grammar.specs.Machine.{Halts, Leads, misplaced, outcome, reads, starting_with};
 ghost use Rattle.vv_grammar_laws.specs.Derivations.{Derives};
-ghost use Rattle.vv_grammar_laws.specs.Readings.{IsReading, IsRefusal};
+ghost use Rattle.vv_grammar_laws.specs.Readings.{IsReading, IsReadWhole, IsRefusal};
 ghost use Rattle.vv_grammar_laws.specs.Starts.{Start, steps_for, terminals};
 
 use vv_grammar::edition::Edition;
@@ -27,10 +27,17 @@ pub fn refusals_are_exact(edition: Edition, tokens: &[Token])
     ensures { (s : Start) (at n : ℕ) → Halts edition tokens.now (starting_with (steps_for s) at) at (Misplaced n) → IsRefusal edition s tokens.now at n }
 {}
 
-/// Where all tokens from one on are derived, nothing else is read and none is refused.
+/// Where all tokens from one on are derived, they are read, nothing else is read and none is refused.
 pub fn what_is_derived_is_read(edition: Edition, tokens: &[Token])
+    ensures whole { (s : Start) (at : ℕ) (es : List Event) → Derives edition (steps_for s) (drop at (terminals tokens.now)) es → IsReadWhole edition s tokens.now at es }
     ensures read { (s : Start) (at next : ℕ) (es fs : List Event) → Derives edition (steps_for s) (drop at (terminals tokens.now)) fs
         → Leads edition tokens.now (starting_with (steps_for s) at) at es [] next → (es ≡ fs) × (drop next (terminals tokens.now) ≡ []) }
     ensures never { (s : Start) (at n : ℕ) (fs : List Event) → Derives edition (steps_for s) (drop at (terminals tokens.now)) fs
         → Halts edition tokens.now (starting_with (steps_for s) at) at (Misplaced n) → ⊥ }
+{}
+
+/// The outcome of the machine is a reading or a refusal in the sense of derivations.
+pub fn outcomes_are_exact(edition: Edition, tokens: &[Token])
+    ensures read { (s : Start) (at next : ℕ) (es : List Event) → outcome edition tokens.now (starting_with (steps_for s) at) at ≡ reads es next → IsReading edition s tokens.now at next es }
+    ensures refused { (s : Start) (at n : ℕ) → outcome edition tokens.now (starting_with (steps_for s) at) at ≡ misplaced n → IsRefusal edition s tokens.now at n }
 {}

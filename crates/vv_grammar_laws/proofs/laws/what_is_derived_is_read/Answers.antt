@@ -1,3 +1,4 @@
+use Rattle.vv_grammar_laws.proofs.Complete.{complete}
 use Rattle.vv_grammar_laws.proofs.Ends.{read_whole, never_refused}
 use Rattle.vv_grammar_laws.proofs.laws.what_is_derived_is_read.Goals as goal
 
@@ -6,3 +7,6 @@ returns-clause-read c = λ s at next es fs d l. read_whole c.args.edition s c.ar
 
 pub returns-clause-never : goal.returns-clause-never
 returns-clause-never c = λ s at n fs d h. never_refused c.args.edition s c.args.tokens.now at n fs d h
+
+pub returns-clause-whole : goal.returns-clause-whole
+returns-clause-whole c = λ s at es d. complete c.args.edition s c.args.tokens.now at es d
