@@ -47,7 +47,7 @@ Way e s ts a es L b = (q : List Terminal) × AreBetween ts a b q × Path e (bare
 around : ℕ → Pending
 around a = record { step = step.Make form.Empty; expressions = levels; statements = levels; began = a }
 
-start-way : (e : Edition) (s : Start) (ts : List Token) (a b : ℕ) (es : List Event) (L : List Pending) → Leads e ts (starting_with (steps_for s) a) a es L b → Way e s ts a es L b
+pub start-way : (e : Edition) (s : Start) (ts : List Token) (a b : ℕ) (es : List Event) (L : List Pending) → Leads e ts (starting_with (steps_for s) a) a es L b → Way e s ts a es L b
 unfolding around
 start-way e s ts a b es L l =
     let w = way e ts (starting_with (steps_for s) a) a es L b l in

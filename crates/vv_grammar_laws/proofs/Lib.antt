@@ -13,3 +13,4 @@ pub mod Words
 pub mod Ends
 pub mod Complete
 pub mod Driven
+pub mod Deep

@@ -1,5 +1,5 @@
 -- What the machine has read, and why it refuses, told by derivations alone.
-use Rattle.std.specs.Prelude.{◌≡◌, ℕ, List, [], ◌∷◌, ◌++◌, Some, None, ◌⊎◌, drop}
+use Rattle.std.specs.Prelude.{◌≡◌, ◌≤◌, ℕ, List, [], ◌∷◌, ◌++◌, Some, None, ◌⊎◌, drop}
 use Rattle.vv_vlex.specs.declared.token.Token.{Token}
 use Rattle.vv_grammar.specs.declared.edition.Edition.{Edition}
 use Rattle.vv_grammar.specs.declared.event.Event.{Event}
@@ -23,6 +23,14 @@ pub record IsRefusal (e : Edition) (s : Start) (ts : List Token) (a n : ℕ) : T
   pub viable : IsViable e (steps_for s) tokens
   pub never : (t : Terminal) → next_terminal ts n ≡ Some t → IsViable e (steps_for s) (tokens ++ (t ∷ [])) → ⊥
   pub ends : (es : List Event) → next_terminal ts n ≡ None → Derives e (steps_for s) tokens es → ⊥
+
+-- What starts at token n is too deep, and up to a token that isn't before n all are the start of something: nothing before n is misplaced.
+pub record IsDeep (e : Edition) (s : Start) (ts : List Token) (a n : ℕ) : Type 0 where
+  pub next : ℕ
+  pub tokens : List Terminal
+  pub between : AreBetween ts a next tokens
+  pub viable : IsViable e (steps_for s) tokens
+  pub by : n ≤ next
 
 -- The machine reads all tokens from a on, and these events happen; or something is too deep for it.
 abbrev pub IsReadWhole : Edition → Start → List Token → ℕ → List Event → Type 0

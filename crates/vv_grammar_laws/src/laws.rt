@@ -2,11 +2,11 @@
 
 ghost use Rattle.std.specs.Prelude.{◌≡◌, ℕ, List, [], drop};
 ghost use Rattle.vv_grammar.specs.declared.event.Event.{Event};
-ghost use Rattle.vv_grammar.specs.declared.machine.Stop.TheVariants.{Misplaced};
+ghost use Rattle.vv_grammar.specs.declared.machine.Stop.TheVariants.{Deep, Misplaced};
 ghost use Rattle.vv_grammar.specs.declared.terminal.Terminal.{Terminal};
 ghost use Rattle.vv_grammar.specs.Machine.{Halts, Leads, misplaced, outcome, reads, starting_with};
 ghost use Rattle.vv_grammar_laws.specs.Derivations.{Derives};
-ghost use Rattle.vv_grammar_laws.specs.Readings.{IsReading, IsReadWhole, IsRefusal};
+ghost use Rattle.vv_grammar_laws.specs.Readings.{IsDeep, IsReading, IsReadWhole, IsRefusal};
 ghost use Rattle.vv_grammar_laws.specs.Starts.{Start, steps_for, terminals};
 
 use vv_grammar::edition::Edition;
@@ -25,6 +25,11 @@ pub fn what_is_read_is_derived(edition: Edition, tokens: &[Token])
 /// The machine refuses at the first token with which what was read is the start of nothing.
 pub fn refusals_are_exact(edition: Edition, tokens: &[Token])
     ensures { (s : Start) (at n : ℕ) → Halts edition tokens.now (starting_with (steps_for s) at) at (Misplaced n) → IsRefusal edition s tokens.now at n }
+{}
+
+/// Where something is too deep, no token before it is misplaced.
+pub fn what_is_too_deep_is_placed(edition: Edition, tokens: &[Token])
+    ensures { (s : Start) (at n : ℕ) → Halts edition tokens.now (starting_with (steps_for s) at) at (Deep n) → IsDeep edition s tokens.now at n }
 {}
 
 /// Where all tokens from one on are derived, they are read, nothing else is read and none is refused.
