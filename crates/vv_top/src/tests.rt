@@ -130,7 +130,11 @@ fn refuses_the_first_broken_file(rt: HostRuntime) -> Result<(), Fail> {
         (sound.as_bytes(), sound.as_bytes(), "h.vhd:1:1: Y1\n"),
         (b"".as_slice(), b"".as_slice(), "h.vhd:1:1: Y1\n"),
         (sound.as_bytes(), b"y <= \"01".as_slice(), "h.vhd:1:6: X2\n"),
-        (b"entity".as_slice(), b"\n 1.5".as_slice(), "h.vhd:2:2: X3\n"),
+        (
+            b"entity".as_slice(),
+            b"\n 1.5".as_slice(),
+            "h.vhd:2:2: X3\n",
+        ),
         (b"a ?".as_slice(), b"?".as_slice(), "g.vhd:1:3: X1\n"),
         (b"\\a\\".as_slice(), long.as_slice(), "g.vhd:1:1: X4\n"),
         (sound.as_bytes(), long.as_slice(), "h.vhd:1:1: L1\n"),

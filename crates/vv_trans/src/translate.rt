@@ -127,6 +127,8 @@ fn translate_gates(alloc: Global, file: &[u8], top: &str) -> Result<Out, Fault>
 /// 1. The limit and the lexical elements of every file. The first file that breaks one of `L1` and `X1` to `X5` is told.
 /// 2. The gates: one file alone is read and checked. Where there are more, the second one is `Y1` at its start, and
 ///    no file at all is `Y1` at the start of the first.
+///
+/// A phase over the syntax of all files goes between the two.
 pub fn translate(alloc: Global, files: &[&[u8]], top: &str) -> Result<Out, Fault>
     requires { length files.now ≤ 255 }
     ensures accepted { IfOk result (λ out. report top.now (bytes_of files.now) ≡ None) }
