@@ -166,15 +166,30 @@ class Chart:
         """How many trees the tokens have, at most 2; they must have been read to their end."""
         known = {}
 
-        def ways(item, at):
+        def trees(item, at):
             if (item, at) not in known:
-                column = self.columns[at]
-                entry = column.kernel[item] if item in column.kernel else column.items[item]
-                total = sum(ways(parent, where) * (ways(child, at) if child else 1) for parent, where, child in entry[1])
-                known[item, at] = min(2, total if entry[1] else 1)
+                total = 0
+                for parent, where, child in self.ways(item, at):
+                    total += trees(parent, where) * (trees(child, at) if child else 1)
+                known[item, at] = min(2, total) if self.ways(item, at) else 1
             return known[item, at]
 
-        return min(2, sum(ways(item, len(self.columns) - 1) for item in self.columns[-1].kernel))
+        return min(2, sum(trees(item, len(self.columns) - 1) for item in self.columns[-1].kernel))
+
+    def passed(self):
+        """The states that a tree of the tokens passes; they must have been read to their end."""
+        found, todo = set(), [(next(iter(self.columns[-1].kernel)), len(self.columns) - 1)]
+        while todo:
+            item, at = todo.pop()
+            found.add(item[0])
+            for parent, where, child in self.ways(item, at)[:1]:
+                todo += [(parent, where)] + ([(child, at)] if child else [])
+        return found
+
+    def ways(self, item, at):
+        """How an item was come to: (the item before, its column, the item of the production that was read or None)."""
+        column = self.columns[at]
+        return (column.kernel if item in column.kernel else column.items)[item][1]
 
     def tree(self):
         """A tree of the tokens, which must have been read to their end: (production, parts); a token is its number."""
@@ -184,11 +199,10 @@ class Chart:
             """The parts of an item's production that have been read."""
             found = []
             while True:
-                column = self.columns[at]
-                entry = column.kernel[item] if item in column.kernel else column.items[item]
-                if not entry[1]:
+                ways = self.ways(item, at)
+                if not ways:
                     return found[::-1]
-                parent, where, child = entry[1][0]
+                parent, where, child = ways[0]
                 found.append((net.owner[child[0]], parts(child, at)) if child else where)
                 item, at = parent, where
 
