@@ -112,7 +112,7 @@ def depths(failures):
 
 
 def small(failures):
-    hostile.MANY, hostile.MOST = 700, 6000
+    hostile.MANY, hostile.MOST = 700, 30_000
     judging, count = judge.Judge(), 0
     for what, source, answer in hostile.cases():
         data = source()

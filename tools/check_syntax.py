@@ -11,6 +11,7 @@ usage: tools/check_syntax.py --bin PROGRAM [--only GROUP,..] [--skip TEXT,..] [-
   prefixes   each prefix of the bytes of examples/syntax/uart_tx.vhd, as tools/judge.py judges them
   mutations  200 changes of a token in uart_tx.vhd and 200 in all of examples/syntax together, as tools/judge.py judges them
   random     300 random texts of the grammar and 300 with a changed token, as tools/judge.py judges them
+  tokens     1000 random rows of parts of tokens, as tools/judge.py judges them
 
 --skip leaves out the cases whose description has one of these texts, --most those with more bytes. The judge is such a program
 itself, so its own check is `tools/check_syntax.py --bin tools/judge.py --most 20000`. Ends with 1 where a case fails, and with
@@ -108,12 +109,30 @@ def random_texts(chance):
         yield f"text {number}, {what}", source, judging.answer(source)
 
 
+PARTS = [
+    *(b"a", b"B", b"e", b"E", b"x", b"o", b"f", b"z9", b"_", b"__", b"and", b"range", b"all"),
+    *(b"0", b"1", b"7", b"16", b"2147483647", b"8", b"16#", b"16#fF#", b"2#", b".", b"E+", b"e-", b"e2", b"_0"),
+    *(b"'", b"'", b"'a'", b"\"", b"\"", b"\"\"", b'"01"', b'b"', b'X"', b'o"1"'),
+    *(b" ", b" ", b" ", b"\n", b"\r", b"\t", b"\v", b"--", b"-", b"\\", b"\x7f"),
+    *(b"(", b")", b"<=", b"<", b">", b"=", b":", b"=>", b"*", b"**", b"/", b"/=", b"&", b"|", b",", b";", b"+"),
+]
+
+
+def parts_of_tokens(chance):
+    judging = judge.Judge()
+    for number in range(1000):
+        row = b"".join(chance.choice(PARTS) for _ in range(chance.choice([1, 2, 3, 5, 8, 13, 30])))
+        source = chance.choice([b"", b"architecture r of e is begin y <= "]) + row
+        yield f"row {number}, {row[:60]!r}", source, judging.answer(source)
+
+
 GROUPS = {
     "table": table,
     "hostile": hostile_cases,
     "prefixes": prefixes,
     "mutations": mutations,
     "random": random_texts,
+    "tokens": parts_of_tokens,
 }
 
 

@@ -24,6 +24,11 @@ def source(*parts):
     return lambda: b"".join(part if isinstance(part, bytes) else part[0] * part[1] for part in parts)
 
 
+def many(*pieces):
+    """How often the pieces may stand, so that the source isn't too long."""
+    return min(MANY, (MOST - 100) // sum(map(len, pieces)))
+
+
 def filled(front, piece, end):
     """A piece again and again, with spaces behind the end, to exactly the greatest size."""
     room = MOST - len(front) - len(end)
@@ -60,8 +65,10 @@ def expressions():
             answer = "ok" if depth <= LIMIT else at(deep, "Y2")
             yield f"{what}, depth {depth}", source(ASSIGN, (opening, levels), b"a", (close, levels), END_ASSIGN), answer
         deep = at(start + len(opening) * (LIMIT - 1) + first, "Y2")
-        yield f"{what}, {MANY} closed", source(ASSIGN, (opening, MANY), b"a", (close, MANY), END_ASSIGN), deep
-        yield f"{what}, {MANY} left open", source(ASSIGN, (opening, MANY)), deep
+        most = many(opening, close)
+        yield f"{what}, {most} closed", source(ASSIGN, (opening, most), b"a", (close, most), END_ASSIGN), deep
+        most = many(opening)
+        yield f"{what}, {most} left open", source(ASSIGN, (opening, most)), deep
     for count in 10, LIMIT - 1, LIMIT, LIMIT + 1, 10_000, MANY:
         answer = at(start + count, "Y1") if count <= LIMIT else at(start + LIMIT, "Y2")
         yield f"{count} open parentheses", source(ASSIGN, (b"(", count)), answer
@@ -108,8 +115,10 @@ def statements():
             text = source(PROCESS, (opening, count), b"null; ", (close, count), END_PROCESS)
             yield f"null in {what}, depth {count + 2}", text, answer
         deep = at(start + len(opening) * (LIMIT - 1), "Y2")
-        yield f"{what}, {MANY} closed", source(PROCESS, (opening, MANY), (close, MANY), END_PROCESS), deep
-        yield f"{what}, {MANY} left open", source(PROCESS, (opening, MANY)), deep
+        most = many(opening, close)
+        yield f"{what}, {most} closed", source(PROCESS, (opening, most), (close, most), END_PROCESS), deep
+        most = many(opening)
+        yield f"{what}, {most} left open", source(PROCESS, (opening, most)), deep
     inside = (b"loop ", LIMIT - 1)
     deep = start + 5 * (LIMIT - 1)
     for what, rest, answer in [
@@ -137,8 +146,10 @@ def concurrent():
             answer = "ok" if count <= LIMIT else at(start + len(opening) * LIMIT, "Y2")
             yield f"{what}, depth {count}", source(BEGIN, (opening, count), (close, count), end), answer
         deep = at(start + len(opening) * LIMIT, "Y2")
-        yield f"{what}, {MANY} left open", source(BEGIN, (opening, MANY)), deep
-        yield f"{what}, {MANY} closed", source(BEGIN, (opening, MANY), (close, MANY), end), deep
+        most = many(opening)
+        yield f"{what}, {most} left open", source(BEGIN, (opening, most)), deep
+        most = many(opening, close)
+        yield f"{what}, {most} closed", source(BEGIN, (opening, most), (close, most), end), deep
     opening = forms[0][1]
     cores = [
         ("an assignment", b"y <= a; "),
@@ -175,8 +186,10 @@ def functions():
             for count in LIMIT - 1, LIMIT, LIMIT + 1:
                 text = source(start, (opening, count), (ends, count), end)
                 yield f"{what} in {place}, depth {count}", text, "ok" if count <= LIMIT else deep
-            yield f"{what} in {place}, {MANY} left open", source(start, (opening, MANY)), deep
-            yield f"{what} in {place}, {MANY} closed", source(start, (opening, MANY), (ends, MANY), end), deep
+            most = many(opening)
+            yield f"{what} in {place}, {most} left open", source(start, (opening, most)), deep
+            most = many(opening, ends)
+            yield f"{what} in {place}, {most} closed", source(start, (opening, most), (ends, most), end), deep
     opening = b"function f return t is "
     for count in LIMIT - 1, LIMIT:
         inner = b"begin null; end; "
@@ -213,9 +226,9 @@ def last_functions():
     yield "last pure function, too deep a value, a body", source(*front, pure, *nested, result, b" is"), body_deep
     yield "last function, too deep a value, a wrong token", source(*front, head, *nested, result, b" begin"), value_deep
     yield "last function, too deep a value, the file ends", source(*front, head, *nested), value_deep
-    many = (b"(", MANY), b"a", (b")", MANY)
-    yield f"last function, a value in {MANY} parentheses, a body", source(*front, head, *many, result, b" is"), body_deep
-    yield f"last function, a value in {MANY} parentheses, declared", source(*front, head, *many, result, b";"), value_deep
+    closed = (b"(", MANY), b"a", (b")", MANY)
+    yield f"last function, a value in {MANY} parentheses, a body", source(*front, head, *closed, result, b" is"), body_deep
+    yield f"last function, a value in {MANY} parentheses, declared", source(*front, head, *closed, result, b";"), value_deep
     yield f"last function, {MANY} open parentheses", source(*front, head, (b"(", MANY)), value_deep
     params = b"function g (a : t", (b"; a : t", MANY // 10), b") return t"
     yield "last function, many parameters, declared", source(*front, *params, b"; ", *back), "ok"
