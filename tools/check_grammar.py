@@ -4,6 +4,7 @@
 usage: tools/check_grammar.py [--seconds N] [--seed N]
 
   table     the judge says of each block of tools/grammar/broken.txt what stands there
+  longest   it says of each block of tools/grammar/longest.txt what stands there
   places    each word, sign and name of the grammar stands in a sound block, and behind each token some block is broken
   depths    small limits of depth, with places worked out by hand
   small     tools/grammar/hostile.py with small numbers in place of the large ones
@@ -20,7 +21,7 @@ import sys
 import time
 
 import judge  # finds tools/grammar
-from check_syntax import HERE, blocks, changed
+from check_syntax import HERE, blocks, changed, heads
 
 import chart  # noqa: E402
 import hostile  # noqa: E402
@@ -82,6 +83,19 @@ def table(failures):
         said = judging.answer(source)
         if said != answer:
             failures.tell("table", what, answer, said)
+    return f"{count} blocks"
+
+
+def longest(failures):
+    judges, count = {}, 0
+    for head, source in heads((HERE / "grammar" / "longest.txt").read_bytes()):
+        start, place, code, what = head.split(" ", 3)
+        judging = judges.setdefault(start, judge.Judge(start=start))
+        answer = f"ok {place}" if code == "ok" else f"{place}: {code}"
+        count += 1
+        said = judging.answer(source)
+        if said != answer:
+            failures.tell("longest", what, answer, said)
     return f"{count} blocks"
 
 
@@ -174,7 +188,7 @@ def main():
     parser.add_argument("--seed", type=int, default=0)
     options = parser.parse_args()
     chance, failures = random.Random(options.seed), Failures()
-    for group in table, places, depths, small:
+    for group in table, longest, places, depths, small:
         print(f"{group.__name__}: {group(failures)}", flush=True)
     for group in agreeing, one_tree:
         print(f"{group.__name__}: {group(failures, chance, options.seconds)}", flush=True)

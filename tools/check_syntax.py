@@ -42,18 +42,23 @@ PLACE = re.compile(rb"(?:.*:)?(\d+:\d+: [A-Z]\d)\n?", re.DOTALL)
 Case = collections.namedtuple("Case", "group what source answer")
 
 
-def blocks(text):
-    """The blocks of a table of sources: (answer, what it shows, source)."""
+def heads(text):
+    """The blocks of a table of sources: (what stands behind `== `, source)."""
     found = []
     for line in text.decode("ascii").split("\n")[:-1]:
         if line.startswith("== "):
             found.append((line[3:], []))
         elif found:
             found[-1][1].append(line)
-    for head, lines in found:
+    return [(head, "\n".join(lines).encode()) for head, lines in found]
+
+
+def blocks(text):
+    """The blocks of broken.txt: (answer, what it shows, source)."""
+    for head, source in heads(text):
         place, code, *what = head.split(" ")
         answer, what = ("ok", [code, *what]) if place == "ok" else (f"{place}: {code}", what)
-        yield answer, " ".join(what), "\n".join(lines).encode()
+        yield answer, " ".join(what), source
 
 
 def changed(data, chance):

@@ -1,7 +1,7 @@
 #!/usr/bin/env python3
 """An independent judge of the grammar of the accepted VHDL: tells `ok`, or the first bad place of a file and its code.
 
-usage: tools/judge.py [--depth N] [--grammar TEXT] [--all-prefixes | --trees | --tree | --tokens] FILE..
+usage: tools/judge.py [--depth N] [--grammar TEXT] [--start NAME | --all-prefixes | --trees | --tree | --tokens] FILE..
 
 It reads the grammar from a text (tools/grammar/vhdl.txt) and works by a general method, Earley's chart; it shares no code
 and no method with the translator. The codes are L1 and X1 to X5 of the tokens, Y1 at the first token with which the tokens
@@ -10,6 +10,8 @@ begins a text, each text that it begins has a statement or an expression of dept
 these is told, Y1 where Y1 and Y2 stand at one token.
 
   --depth N        how deep statements and expressions may be, 128 if not given
+  --start NAME     reads the longest run of tokens that begins a text of a production (expr, name, aggr), and prints `ok` and
+                   the place behind it where it is such a text, else Y1 at that place
   --all-prefixes   judges each prefix of the file's bytes, and prints `BYTES: ` and its answer on a line each
   --trees          prints besides how many trees an accepted file has, at most 2
   --tree           prints the tree of an accepted file
@@ -36,8 +38,9 @@ GRAMMAR = HERE / "grammar" / "vhdl.txt"
 class Judge:
     """Judges texts; two that begin with the same tokens, one after the other, share the work on these."""
 
-    def __init__(self, grammar=GRAMMAR, depth=128, refuse_ambiguous=True):
-        network = ebnf.Network(pathlib.Path(grammar).read_text())
+    def __init__(self, grammar=GRAMMAR, depth=128, refuse_ambiguous=True, start=None):
+        network = ebnf.Network(pathlib.Path(grammar).read_text(), start)
+        self.is_longest = start is not None
         self.chart = chart.Chart(network, depth, refuse_ambiguous)
 
     def verdict(self, data):
@@ -53,6 +56,8 @@ class Judge:
         deep = self.chart.common[viable]
         if deep is not None and deep < viable:
             return "Y2", tokens[deep][1]
+        if self.is_longest and self.chart.is_whole():
+            return "ok", tokens[viable][1]
         if viable < len(tokens):
             return "Y1", tokens[viable][1]
         return None
@@ -67,7 +72,7 @@ def answer(data, verdict):
         return "ok"
     code, at = verdict
     line, column = lexer.place(data, at)
-    return f"{line}:{column}: {code}"
+    return f"ok {line}:{column}" if code == "ok" else f"{line}:{column}: {code}"
 
 
 def show(tree, data, tokens, indent=0):
@@ -85,7 +90,7 @@ def show(tree, data, tokens, indent=0):
 
 
 def run(options):
-    judge = Judge(options.grammar, options.depth, not options.trees)
+    judge = Judge(options.grammar, options.depth, not options.trees, options.start)
     status = 0
     for name in options.files:
         data = pathlib.Path(name).read_bytes()
@@ -100,7 +105,7 @@ def run(options):
             continue
         said = judge.answer(data)
         print(front + said)
-        status = max(status, said != "ok")
+        status = max(status, not said.startswith("ok"))
         if said == "ok" and options.trees:
             print(f"{front}trees: {judge.chart.count()}")
         if said == "ok" and options.tree:
@@ -113,6 +118,7 @@ def main():
     parser.add_argument("--depth", type=int, default=128)
     parser.add_argument("--grammar", default=GRAMMAR)
     modes = parser.add_mutually_exclusive_group()
+    modes.add_argument("--start", metavar="NAME")
     for mode in ("--all-prefixes", "--trees", "--tree", "--tokens"):
         modes.add_argument(mode, action="store_true")
     parser.add_argument("files", nargs="+", metavar="FILE")

@@ -176,6 +176,12 @@ class Chart:
 
         return min(2, sum(trees(item, len(self.columns) - 1) for item in self.columns[-1].kernel))
 
+    def is_whole(self):
+        """Whether the tokens that have been read are a text of the start."""
+        self.step(None)
+        net = self.network
+        return any(net.owner[state] == "$" and net.ends[state] for state, _, _ in self.columns[-1].items)
+
     def passed(self):
         """The states that a tree of the tokens passes; they must have been read to their end."""
         found, todo = set(), [(next(iter(self.columns[-1].kernel)), len(self.columns) - 1)]

@@ -19,9 +19,13 @@ class Network:
     Of a production: `begin`, its first state; `first`, its first tokens; `empty`, whether it can have none.
     """
 
-    def __init__(self, text):
+    def __init__(self, text, start=None):
+        """With a production to start with, a text of it is read, and not the end of the file behind it."""
         self.rules = read(text)
-        self.rules = {"$": ("then", ("one", next(iter(self.rules))), ("one", "End")), **self.rules}
+        if start is not None and "$" + start not in self.rules:
+            raise ValueError(f"there is no production {start}")
+        whole = ("then", ("one", next(iter(self.rules))), ("one", "End"))
+        self.rules = {"$": whole if start is None else ("one", "$" + start), **self.rules}
         self.owner, self.takes, self.follows, self.ends, self.begin = [], [], [], [], {}
         for name, rule in self.rules.items():
             self.begin[name] = self.state(name, None)

@@ -235,6 +235,22 @@ def last_functions():
     yield "last function, many parameters, a body", source(*front, *params, b" is "), body_deep
 
 
+def last_functions_elsewhere():
+    """The same where the levels are generates and a process."""
+    generate, function = b"g : if a generate ", b"function g return t"
+    in_process = (BEGIN, (generate, LIMIT - 1), b"process ")
+    start = len(BEGIN) + len(generate) * (LIMIT - 1) + len(b"process ")
+    back = (b"begin end process; ", (b"end generate; ", LIMIT - 1), b"end;")
+    yield "last function of a process, declared", source(*in_process, function, b"; ", *back), "ok"
+    yield "last function of a process, a body", source(*in_process, function, b" is begin end; ", *back), at(start, "Y2")
+    in_generate = (BEGIN, (generate, LIMIT))
+    start = len(BEGIN) + len(generate) * LIMIT
+    back = (b"begin ", (b"end generate; ", LIMIT), b"end;")
+    yield "last function of a generate, declared", source(*in_generate, function, b"; ", *back), "ok"
+    yield "last function of a generate, a body", source(*in_generate, b"pure ", function, b" is"), at(start, "Y2")
+    yield "last function of a generate, the file ends", source(*in_generate, function), at(start + len(function), "Y1")
+
+
 def lists():
     """What isn't counted in the depth, in great number."""
     start = len(ASSIGN)
@@ -324,5 +340,5 @@ def sizes():
 
 
 def cases():
-    for group in expressions, statements, concurrent, functions, last_functions, lists, sizes:
+    for group in expressions, statements, concurrent, functions, last_functions, last_functions_elsewhere, lists, sizes:
         yield from group()
