@@ -13,7 +13,7 @@ use Rattle.vv_gate_read.proofs.Order.{tokens-ordered}
 use Rattle.vv_gate_read.proofs.Judged.{read_well, stops_well}
 use Rattle.vv_gate_check.specs.Places.{first, broken_places}
 use Rattle.vv_gate_check.proofs.Law.{first_is_least}
-use Rattle.vv_trans.specs.Translation.{folded, reading_of, Report, gate_report, HasElements, IsReport, misplaced, broken, IsAccepted}
+use Rattle.vv_trans.specs.Translation.{folded, reading_of, Report, gate_report, HasElements, HasSyntax, IsReport, misplaced, broken, IsAccepted}
 
 abbrev broken_at : ℕ → Report
 broken_at at = record { rule = N1; file = 0; at = at }
@@ -90,12 +90,12 @@ same_report : (a b : Report) → Some a ≡ Some b → a ≡ b
 same_report a b e = cc
 
 -- a report of one file, which is alone and has its elements
-told_of : (top file : List ℕ) (files : List (List ℕ)) (r : Report) (o : Outcome) → files ≡ file ∷ [] → HasElements file → reading_of file ≡ o
+told_of : (top file : List ℕ) (files : List (List ℕ)) (r : Report) (o : Outcome) → files ≡ file ∷ [] → HasElements file → HasSyntax file → reading_of file ≡ o
     → gate_report (folded top) o ≡ Some r → IsReport top files r
-told_of top file files r (Stops at) alone h is e =
+told_of top file files r (Stops at) alone h k is e =
     subst (IsReport top files) (same_report (record { rule = Y1; file = 0; at = at }) r e)
-    (misplaced file at alone h (stops_well at (tokens_of (folded file)) (tokens-ordered (folded file)) is))
-told_of top file files r (Reads f) alone h is e =
+    (misplaced file at alone h k (stops_well at (tokens_of (folded file)) (tokens-ordered (folded file)) is))
+told_of top file files r (Reads f) alone h k is e =
     let reading = read_well f (tokens_of (folded file)) (tokens-ordered (folded file)) is in
     told_first (first (broken_places (folded top) f)) refl reading e
   where
@@ -103,11 +103,11 @@ told_of top file files r (Reads f) alone h is e =
     told_first None q reading e = let z : None ≡ Some r = e in cc
     told_first (Some at) q reading e =
         subst (IsReport top files) (same_report (record { rule = N1; file = 0; at = at }) r e)
-        (broken file at f alone h reading (first_is_least (folded top) f (Some at) reading.placed q))
+        (broken file at f alone h k reading (first_is_least (folded top) f (Some at) reading.placed q))
 
-pub gate_told : (top file : List ℕ) (files : List (List ℕ)) (r : Report) → files ≡ file ∷ [] → HasElements file → gate_report (folded top) (reading_of file) ≡ Some r
+pub gate_told : (top file : List ℕ) (files : List (List ℕ)) (r : Report) → files ≡ file ∷ [] → HasElements file → HasSyntax file → gate_report (folded top) (reading_of file) ≡ Some r
     → IsReport top files r
-gate_told top file files r alone h e = told_of top file files r (reading_of file) alone h refl e
+gate_told top file files r alone h k e = told_of top file files r (reading_of file) alone h k refl e
 
 only_misplaced : (top file : List ℕ) (at : ℕ) (o : Outcome) → IsMisplaced (tokens_of (folded file)) at → reading_of file ≡ o → gate_report (folded top) o ≡ Some (record { rule = Y1; file = 0; at = at })
 only_misplaced top file at (Stops place) m is =
@@ -135,15 +135,16 @@ pub gate_broken : (top file : List ℕ) (at : ℕ) (f : GateFile) → IsReading 
     → gate_report (folded top) (reading_of file) ≡ Some (record { rule = N1; file = 0; at = at })
 gate_broken top file at f reading h = only_broken top file at f (reading_of file) reading h refl
 
-accepted_of : (top file : List ℕ) (files : List (List ℕ)) (o : Outcome) → files ≡ file ∷ [] → HasElements file → reading_of file ≡ o
+accepted_of : (top file : List ℕ) (files : List (List ℕ)) (o : Outcome) → files ≡ file ∷ [] → HasElements file → HasSyntax file → reading_of file ≡ o
     → gate_report (folded top) o ≡ None → IsAccepted top files
-accepted_of top file files (Stops at) alone h is e = absurd (some_none (record { rule = Y1; file = 0; at = at }) e)
-accepted_of top file files (Reads f) alone h is e =
+accepted_of top file files (Stops at) alone h k is e = absurd (some_none (record { rule = Y1; file = 0; at = at }) e)
+accepted_of top file files (Reads f) alone h k is e =
     let reading = read_well f (tokens_of (folded file)) (tokens-ordered (folded file)) is in
     record {
       file = file;
       alone = alone;
       lexical = h;
+      parses = k;
       tree = f;
       reading = reading;
       sound = sound_at (first (broken_places (folded top) f)) e (first_is_least (folded top) f (first (broken_places (folded top) f)) reading.placed refl);
@@ -153,6 +154,6 @@ accepted_of top file files (Reads f) alone h is e =
     sound_at None e h = h
     sound_at (Some at) e h = absurd (some_none (record { rule = N1; file = 0; at = at }) e)
 
-pub gate_accepted : (top file : List ℕ) (files : List (List ℕ)) → files ≡ file ∷ [] → HasElements file → gate_report (folded top) (reading_of file) ≡ None
+pub gate_accepted : (top file : List ℕ) (files : List (List ℕ)) → files ≡ file ∷ [] → HasElements file → HasSyntax file → gate_report (folded top) (reading_of file) ≡ None
     → IsAccepted top files
-gate_accepted top file files alone h e = accepted_of top file files (reading_of file) alone h refl e
+gate_accepted top file files alone h k e = accepted_of top file files (reading_of file) alone h k refl e

@@ -40,7 +40,7 @@ placed_here number file more b e = record {
   inside = let zero_is : number - number ≡ 0 = omega arith in subst (λ (k : ℕ). b.at ≤ length (get_or (file ∷ more) k [])) (sym zero_is) (broken_inside file b e);
 }
 
-placed_later : (number : ℕ) (file : List ℕ) (more : List (List ℕ)) (r : Report) → IsPlaced (number + 1) more r → IsPlaced number (file ∷ more) r
+pub placed_later : (number : ℕ) (file : List ℕ) (more : List (List ℕ)) (r : Report) → IsPlaced (number + 1) more r → IsPlaced number (file ∷ more) r
 placed_later number file more r p =
     let from = p.from in
     let to = p.to in

@@ -4,3 +4,5 @@ pub mod Phases
 pub mod Inside
 pub mod Lexed
 pub mod Arms
+pub mod Tokens
+pub mod Parsed

@@ -8,7 +8,8 @@ use Rattle.vv_base.specs.declared.rules.Rule.{Rule}
 use Rattle.vv_base.specs.declared.rules.Rule.TheVariants.{L1, Y1, N1}
 use Rattle.vv_vlex.specs.Elements.{Lexeme}
 pub use Rattle.vv_vlex.specs.Lexical.{ForRefused}
-use Rattle.vv_vlex.specs.Lexical.{Elements, elements_of}
+use Rattle.vv_vlex.specs.Lexical.{Broken, Elements, elements_of}
+use Rattle.vv_trans.specs.Parsing.{syntax}
 use Rattle.vv_vlex_laws.specs.Cut.{IsCutOf, IsStuckAt}
 use Rattle.vv_gate.specs.Tree.{GateFile}
 use Rattle.vv_gate.specs.Conditions.{IsSound, IsFirstBroken}
@@ -62,6 +63,16 @@ unfoldable pub lexing : ℕ → List (List ℕ) → Option Report
 lexing number [] = None
 lexing number (file ∷ more) = option_or (element_report number (elements_of file)) (lexing (number + 1) more)
 
+-- what the syntax of the file of this number tells
+abbrev pub syntax_report : ℕ → Option Broken → Option Report
+syntax_report number None = None
+syntax_report number (Some broken) = Some (record { rule = broken.rule; file = number; at = broken.at })
+
+-- the phase of syntax, over files of which the first has this number
+unfoldable pub parsing : ℕ → List (List ℕ) → Option Report
+parsing number [] = None
+parsing number (file ∷ more) = option_or (syntax_report number (syntax file)) (parsing (number + 1) more)
+
 abbrev pub gate_report : List ℕ → Outcome → Option Report
 gate_report top (Stops at) = Some (record { rule = Y1; file = 0; at = at })
 gate_report top (Reads f) = option_map (λ at. record { rule = N1; file = 0; at = at }) (first (broken_places top f))
@@ -74,7 +85,7 @@ gates top (file ∷ second ∷ more) = Some (record { rule = Y1; file = 1; at = 
 
 -- the rule that files break first, if they break one: the first phase with a broken rule reports
 unfoldable pub report : List ℕ → List (List ℕ) → Option Report
-report top files = option_or (lexing 0 files) (gates top files)
+report top files = option_or (lexing 0 files) (option_or (parsing 0 files) (gates top files))
 
 -- the bytes that are written
 pub record Written : Type 0 where
@@ -113,6 +124,10 @@ pub record HasElements (file : List ℕ) : Type 0 where
   pub elements : List Lexeme
   pub cut : IsCutOf file elements
 
+-- the file breaks no rule of syntax
+abbrev pub HasSyntax : List ℕ → Type 0
+HasSyntax file = syntax file ≡ None
+
 -- What a report says. First come limits and elements: of the first file that is too long, or in which no element stands at some place, the
 -- files before it having theirs. Where all files have theirs, there is one file alone, or the second one is refused at its start. That file is
 -- refused at the first token that no text of the grammar goes on with; else a condition is broken, and this is the first place of one.
@@ -121,19 +136,22 @@ pub data IsReport (top : List ℕ) (files : List (List ℕ)) : Report → Type 0
       → most_bytes < length file → IsReport top files (record { rule = L1; file = length before; at = 0 })
   stuck : (before more : List (List ℕ)) (file : List ℕ) (rule : Rule) (at : ℕ) → files ≡ before ++ (file ∷ more) → All HasElements before
       → length file ≤ most_bytes → IsStuckAt file at rule → IsReport top files (record { rule = rule; file = length before; at = at })
+  unparsed : (before more : List (List ℕ)) (file : List ℕ) (b : Broken) → files ≡ before ++ (file ∷ more) → All HasElements files → All HasSyntax before
+      → syntax file ≡ Some b → IsReport top files (record { rule = b.rule; file = length before; at = b.at })
   no_file : files ≡ [] → IsReport top files (record { rule = Y1; file = 0; at = 0 })
-  second : (file other : List ℕ) (more : List (List ℕ)) → files ≡ file ∷ other ∷ more → All HasElements files
+  second : (file other : List ℕ) (more : List (List ℕ)) → files ≡ file ∷ other ∷ more → All HasElements files → All HasSyntax files
       → IsReport top files (record { rule = Y1; file = 1; at = 0 })
-  misplaced : (file : List ℕ) (at : ℕ) → files ≡ file ∷ [] → HasElements file → IsMisplaced (tokens_of (folded file)) at
+  misplaced : (file : List ℕ) (at : ℕ) → files ≡ file ∷ [] → HasElements file → HasSyntax file → IsMisplaced (tokens_of (folded file)) at
       → IsReport top files (record { rule = Y1; file = 0; at = at })
-  broken : (file : List ℕ) (at : ℕ) (tree : GateFile) → files ≡ file ∷ [] → HasElements file → IsReading tree (tokens_of (folded file))
+  broken : (file : List ℕ) (at : ℕ) (tree : GateFile) → files ≡ file ∷ [] → HasElements file → HasSyntax file → IsReading tree (tokens_of (folded file))
       → IsFirstBroken (folded top) tree at → IsReport top files (record { rule = N1; file = 0; at = at })
 
--- there is one file, within the limit and cut into elements, and it is a text of the grammar whose tree breaks no condition
+-- there is one file, within the limit, cut into elements and lawful in its syntax, and it is a text of the grammar whose tree breaks no condition
 pub record IsAccepted (top : List ℕ) (files : List (List ℕ)) : Type 0 where
   pub file : List ℕ
   pub alone : files ≡ file ∷ []
   pub lexical : HasElements file
+  pub parses : HasSyntax file
   pub tree : GateFile
   pub reading : IsReading tree (tokens_of (folded file))
   pub sound : IsSound (folded top) tree
