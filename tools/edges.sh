@@ -16,6 +16,7 @@ cp -- "$root/examples/gate.vhd" "$room/gate.vhd" || exit 2
 cd -- "$room" || exit 2
 mkdir folder
 printf 'entity gate is end;\n' >bad.vhd
+printf 'y <= "01' >open.vhd
 cat >gate.v <<'TEXT'
 module gate(
   input wire a,
@@ -70,10 +71,12 @@ same "the same text" "c c.v" gate.v
 case_of "no words" 2 usage
 case_of "another command" 2 usage replay vhdl gate s.csv gate.vhd
 case_of "too few words" 2 usage translate gate d.v d.csv
-case_of "two files" 2 usage translate gate d.v d.csv gate.vhd gate.vhd
+case_of "one file twice" 2 usage translate gate d.v d.csv gate.vhd gate.vhd
+case_of "256 files" 2 usage translate gate d.v d.csv {1..256}.vhd
 case_of "a top that begins with -" 2 usage translate -gate d.v d.csv gate.vhd
 case_of "OUT and MAP are one name" 2 usage translate gate d.v d.v gate.vhd
 case_of "OUT and FILE are one name" 2 usage translate gate gate.vhd d.csv gate.vhd
+case_of "OUT and the second FILE are one name" 2 usage translate gate bad.vhd d.csv gate.vhd bad.vhd
 case_of "MAP and FILE are one name" 2 usage translate gate d.v gate.vhd gate.vhd
 case_of "a command in capitals" 2 usage TRANSLATE gate d.v d.csv gate.vhd
 case_of "a word that is not UTF-8" 2 usage translate gate d.v d.csv $'gate\xff.vhd'
@@ -81,10 +84,15 @@ absent "no text after status 2" d.v
 absent "no map after status 2" d.csv
 
 case_of "a refused file" 1 "bad.vhd:1:1: Y1" translate gate e.v e.csv bad.vhd
+case_of "an open string" 1 "open.vhd:1:6: X2" translate gate e.v e.csv open.vhd
+case_of "a second file" 1 "bad.vhd:1:1: Y1" translate gate e.v e.csv gate.vhd bad.vhd
+case_of "an open string in the third file" 1 "open.vhd:1:6: X2" translate gate e.v e.csv gate.vhd bad.vhd open.vhd
 absent "no text after status 1" e.v
 absent "no map after status 1" e.csv
 
 case_of "an absent file" 3 "read fault: nothing.vhd" translate gate f.v f.csv nothing.vhd
+case_of "an absent second file" 3 "read fault: nothing.vhd" translate gate f.v f.csv gate.vhd nothing.vhd
+case_of "two absent files" 3 "read fault: nothing.vhd" translate gate f.v f.csv nothing.vhd none.vhd
 case_of "a folder in place of the file" 3 "read fault: folder" translate gate f.v f.csv folder
 case_of "an empty name" 3 "read fault: " translate gate f.v f.csv ""
 absent "no text after status 3" f.v

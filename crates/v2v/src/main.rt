@@ -1,4 +1,4 @@
-//! Translates a file of VHDL to Verilog: `v2v translate TOP OUT MAP FILE`.
+//! Translates files of VHDL to Verilog: `v2v translate TOP OUT MAP FILE`, with further FILEs or none.
 #![tactic(auto)]
 
 use std::alloc::{AllocError, Global};

@@ -1,14 +1,15 @@
 -- What follows from why a translation stopped, and from what was printed of it.
-use Rattle.std.proofs.Common.{◌≡◌, ◌≢◌, ◌⊎◌, inl, inr, ℕ, List, Option, Some, IsSomeAnd, sym, ◌∙◌, subst, arith}
+use Rattle.std.proofs.Common.{◌≡◌, ◌≢◌, ◌⊎◌, inl, inr, ℕ, List, [], Option, Some, IsSomeAnd, map, sym, ◌∙◌, subst, arith}
+use Rattle.std.proofs.lemmas.List.Elements.{All-get_or}
 use Rattle.std.specs.Prelude.{MatchOption}
 use Rattle.std.specs.Io.KnownBytes.{Appends}
 use Rattle.vv_base.specs.Outside.{Told, Rose}
-use Rattle.vv_trans.specs.Translation.{Report, report}
+use Rattle.vv_trans.specs.Translation.{Report, report, told}
 use Rattle.vv_top.specs.declared.run.Stop.{Stop}
 use Rattle.vv_top.specs.declared.run.Stop.TheVariants.{ReadFault, OutputFault, MapFault, Refused, Memory}
 use Rattle.vv_top.specs.Lines.{Announced, Cut, memory_line, report_line}
-use Rattle.vv_top.specs.Run.{RuleBroken, OfBytes, Saved, SavedPart}
-use Rattle.vv_top.specs.Stops.{Means, line_of, status_of, report_of}
+use Rattle.vv_top.specs.Run.{RuleBroken, OfFiles, Saved, SavedPart}
+use Rattle.vv_top.specs.Stops.{Means, line_of, status_of}
 use Rattle.vv_top.specs.Top.{IsRefused, IsReadFault, IsSaveFault, IsStopped, NoFault, Accepts, Refuses, Translates}
 use Rattle.vv_top.specs.Words.{Wanted}
 
@@ -36,33 +37,33 @@ put_at_4 line status result was is before now (inr (inl p)) at4 = absurd (omega 
 put_at_4 line status result was is before now (inr (inr (inl p))) at4 = inr (p.1, inr p.2)
 put_at_4 line status result was is before now (inr (inr (inr p))) at4 = absurd (omega (arith, p.0, at4))
 
--- the bytes that break a rule are the file's, where these are told
-refused_of : (w : Wanted) (old new : List ℕ → Told) (bytes : List ℕ) (r : Report) (P : List ℕ → Type 0) → RuleBroken w old new bytes r → P (report_line w.file bytes r) → IsRefused w old new P
+-- the bytes that break a rule are those of the files, where these are told
+refused_of : (w : Wanted) (old new : List ℕ → Told) (bytes : List (List ℕ)) (r : Report) (P : List ℕ → Type 0) → RuleBroken w old new bytes r → P (report_line w.files bytes r) → IsRefused w old new P
 refused_of w old new bytes r P m p = record {
   same = m.same;
-  line = λ file told. subst (λ f. IsSomeAnd (report w.top f) (λ q. P (report_line w.file f q))) (sym (m.file file told)) (is_some_and (report w.top bytes) r (λ q. P (report_line w.file bytes q)) m.told p);
+  line = λ files told. subst (λ f. IsSomeAnd (report w.top f) (λ q. P (report_line w.files f q))) (sym (m.loaded files told)) (is_some_and (report w.top bytes) r (λ q. P (report_line w.files bytes q)) m.broken p);
 }
 
 -- P of the line that tells why
 stopped_of : (w : Wanted) (old new : List ℕ → Told) (loads loaded saves saved : List ℕ → ℕ) (P : List ℕ → Type 0) (stop : Stop) → Means w old new loads loaded saves saved stop → P (line_of w stop) → IsStopped w old new loads loaded saves saved P
-stopped_of w old new loads loaded saves saved P ReadFault m p = inr (inl (record { failed = m; line = p }))
+stopped_of w old new loads loaded saves saved P (ReadFault number) m p = inr (inl (record { number = number; failed = m; line = p }))
 stopped_of w old new loads loaded saves saved P OutputFault m p = inr (inr (inl (inl (record { failed = m; line = p }))))
 stopped_of w old new loads loaded saves saved P MapFault m p = inr (inr (inl (inr (record { failed = m; line = p }))))
-stopped_of w old new loads loaded saves saved P (Refused file refusal) m p = inl (refused_of w old new file.items (report_of refusal) P m p)
+stopped_of w old new loads loaded saves saved P (Refused files refusal) m p = inl (refused_of w old new (map (λ file. file.items) files.items) (told refusal) P m p)
 stopped_of w old new loads loaded saves saved P Memory m p = inr (inr (inr p))
 
 read_of : (w : Wanted) (old new : List ℕ → Told) (loads loaded saves saved : List ℕ → ℕ) (P : List ℕ → Type 0) (stop : Stop) → Means w old new loads loaded saves saved stop → status_of stop ≡ 3 → P (line_of w stop) → IsReadFault w old new loads loaded P
-read_of w old new loads loaded saves saved P ReadFault m e p = record { failed = m; line = p }
+read_of w old new loads loaded saves saved P (ReadFault number) m e p = record { number = number; failed = m; line = p }
 read_of w old new loads loaded saves saved P OutputFault m e p = absurd (omega (arith, e))
 read_of w old new loads loaded saves saved P MapFault m e p = absurd (omega (arith, e))
-read_of w old new loads loaded saves saved P (Refused file refusal) m e p = absurd (omega (arith, e))
+read_of w old new loads loaded saves saved P (Refused files refusal) m e p = absurd (omega (arith, e))
 read_of w old new loads loaded saves saved P Memory m e p = absurd (omega (arith, e))
 
 save_of : (w : Wanted) (old new : List ℕ → Told) (loads loaded saves saved : List ℕ → ℕ) (P : List ℕ → Type 0) (stop : Stop) → Means w old new loads loaded saves saved stop → status_of stop ≡ 4 → P (line_of w stop) → IsSaveFault w old new saves saved P
-save_of w old new loads loaded saves saved P ReadFault m e p = absurd (omega (arith, e))
+save_of w old new loads loaded saves saved P (ReadFault number) m e p = absurd (omega (arith, e))
 save_of w old new loads loaded saves saved P OutputFault m e p = inl (record { failed = m; line = p })
 save_of w old new loads loaded saves saved P MapFault m e p = inr (record { failed = m; line = p })
-save_of w old new loads loaded saves saved P (Refused file refusal) m e p = absurd (omega (arith, e))
+save_of w old new loads loaded saves saved P (Refused files refusal) m e p = absurd (omega (arith, e))
 save_of w old new loads loaded saves saved P Memory m e p = absurd (omega (arith, e))
 
 -- status 3
@@ -106,18 +107,20 @@ not_4 w old new loads loaded saves saved stop result was is before now m a none 
     ]
 
 -- with no fault a stop is a refusal, and the line is told
-translates_of : (w : Wanted) (old new : List ℕ → Told) (loads loaded saves saved : List ℕ → ℕ) (stop : Stop) (result : ℕ) (was is : Option (List ℕ)) (before now : ℕ) → Means w old new loads loaded saves saved stop → result ≡ status_of stop → Appends was is (line_of w stop) → NoFault w loads loaded saves saved before now → result ≢ 5 → OfBytes (old w.file) (λ file. Translates w file result old new was is)
-translates_of w old new loads loaded saves saved ReadFault result was is before now m e p none not5 = absurd (none.load m.rose)
+translates_of : (w : Wanted) (old new : List ℕ → Told) (loads loaded saves saved : List ℕ → ℕ) (stop : Stop) (result : ℕ) (was is : Option (List ℕ)) (before now : ℕ) → Means w old new loads loaded saves saved stop → result ≡ status_of stop → Appends was is (line_of w stop) → NoFault w loads loaded saves saved before now → result ≢ 5 → OfFiles w old (λ files. Translates w files result old new was is)
+translates_of w old new loads loaded saves saved (ReadFault number) result was is before now m e p none not5 =
+    absurd (All-get_or (λ name. ¬ Rose (loads name) (loaded name)) w.files number [] m.load.within none.load m.load.rose)
 translates_of w old new loads loaded saves saved OutputFault result was is before now m e p none not5 = absurd (none.output m.rose)
 translates_of w old new loads loaded saves saved MapFault result was is before now m e p none not5 = absurd (none.map m.rose)
-translates_of w old new loads loaded saves saved (Refused file refusal) result was is before now m e p none not5 =
-    let r = report_of refusal in
-    λ told_file told. subst (λ f. Translates w f result old new was is) (sym (m.file told_file told))
-    (match_some (report w.top file.items) r (Accepts w file.items result old new was is) (λ q. Refuses w file.items q result old new was is) m.told (record { answer = e; same = m.same; line = p }))
+translates_of w old new loads loaded saves saved (Refused files refusal) result was is before now m e p none not5 =
+    let bytes : List (List ℕ) = map (λ file. file.items) files.items in
+    let r = told refusal in
+    λ told_files told. subst (λ f. Translates w f result old new was is) (sym (m.loaded told_files told))
+    (match_some (report w.top bytes) r (Accepts w bytes result old new was is) (λ q. Refuses w bytes q result old new was is) m.broken (record { answer = e; same = m.same; line = p }))
 translates_of w old new loads loaded saves saved Memory result was is before now m e p none not5 = absurd (not5 e)
 
--- with no fault and no want of memory the file's bytes settle what a stop comes to
-pub headline_told : (w : Wanted) (old new : List ℕ → Told) (loads loaded saves saved : List ℕ → ℕ) (stop : Stop) (result : ℕ) (was is : Option (List ℕ)) (before now : ℕ) → Means w old new loads loaded saves saved stop → Announced (line_of w stop) (status_of stop) result was is before now → NoFault w loads loaded saves saved before now → result ≢ 5 → OfBytes (old w.file) (λ file. Translates w file result old new was is)
+-- with no fault and no want of memory the bytes of the files settle what a stop comes to
+pub headline_told : (w : Wanted) (old new : List ℕ → Told) (loads loaded saves saved : List ℕ → ℕ) (stop : Stop) (result : ℕ) (was is : Option (List ℕ)) (before now : ℕ) → Means w old new loads loaded saves saved stop → Announced (line_of w stop) (status_of stop) result was is before now → NoFault w loads loaded saves saved before now → result ≢ 5 → OfFiles w old (λ files. Translates w files result old new was is)
 headline_told w old new loads loaded saves saved stop result was is before now m a none not5 =
     let not4 = not_4 w old new loads loaded saves saved stop result was is before now m a none in
     let put = put_whole (line_of w stop) (status_of stop) result was is before now a not4 not5 in

@@ -1,5 +1,5 @@
 -- The lines that are printed, and what a put may leave of one.
-use Rattle.std.specs.Prelude.{◌≡◌, ℕ, ◌+◌, ◌==◌, if◌then◌else◌, fold, List, [], ◌∷◌, ◌++◌, take, count_by, Option, codes, decimal, ◌⊎◌}
+use Rattle.std.specs.Prelude.{◌≡◌, ℕ, ◌+◌, ◌==◌, if◌then◌else◌, fold, List, [], ◌∷◌, ◌++◌, take, get_or, count_by, Option, codes, decimal, ◌⊎◌}
 use Rattle.std.specs.Io.KnownBytes.{Appends, Keeps}
 use Rattle.vv_base.specs.Outside.{Rose}
 use Rattle.vv_base.specs.Codes.{code_of}
@@ -22,13 +22,13 @@ abbrev pub place_line : List ℕ → List ℕ → ℕ → List ℕ → List ℕ
 place_line name file at code =
     name ++ (codes ":" ++ (decimal (line_at file at) ++ (codes ":" ++ (decimal (column_at file at) ++ (codes ": " ++ (code ++ 10 ∷ []))))))
 
--- the rule that a file breaks, at its place
-abbrev pub report_line : List ℕ → List ℕ → Report → List ℕ
-report_line name file r = place_line name file r.at (code_of r.rule)
+-- the rule that files of these names break, at its place in its file
+abbrev pub report_line : List (List ℕ) → List (List ℕ) → Report → List ℕ
+report_line names files r = place_line (get_or names r.file []) (get_or files r.file []) r.at (code_of r.rule)
 
--- a load of the name failed
-abbrev pub read_line : List ℕ → List ℕ
-read_line name = name_line (codes "read fault: ") name
+-- a load of the name of this number failed
+abbrev pub read_line : List (List ℕ) → ℕ → List ℕ
+read_line names number = name_line (codes "read fault: ") (get_or names number [])
 
 -- a save of the name failed
 abbrev pub write_line : List ℕ → List ℕ

@@ -1,42 +1,47 @@
 -- What a translation does to the shelf.
-use Rattle.std.specs.Prelude.{◌≡◌, ℕ, List, Some, None, bytes_eq, false, ◌⊎◌}
+use Rattle.std.specs.Prelude.{◌≡◌, ℕ, List, map, Some, None, bytes_eq, false, ◌⊎◌}
 use Rattle.vv_base.specs.Outside.{Told, Rose, Holds, KeepsAll, KeepsOthers}
 use Rattle.vv_trans.specs.Translation.{Report, report, written, Stands}
+use Rattle.vv_top.specs.Loads.{LoadFailed}
 use Rattle.vv_top.specs.Words.{Wanted}
 
 -- of every name but these two the same is told
 abbrev pub KeepsBut : List ℕ → List ℕ → (List ℕ → Told) → (List ℕ → Told) → Type 0
 KeepsBut a b old new = (n : List ℕ) → bytes_eq a n ≡ false → bytes_eq b n ≡ false → new n ≡ old n
 
--- where the file's bytes are told, P of them
-abbrev pub OfBytes : Told → (List ℕ → Type 0) → Type 0
-OfBytes told P = (file : List ℕ) → told ≡ Some (Some file) → P file
+-- of each of these names bytes are told, and files has them in order
+abbrev pub AreTold : (List ℕ → Told) → List (List ℕ) → List (List ℕ) → Type 0
+AreTold held names files = map held names ≡ map (λ file. Some (Some file)) files
 
--- the file breaks no rule
+-- where the bytes of all files are told, P of them
+abbrev pub OfFiles : Wanted → (List ℕ → Told) → (List (List ℕ) → Type 0) → Type 0
+OfFiles w held P = (files : List (List ℕ)) → AreTold held w.files files → P files
+
+-- the files break no rule
 abbrev pub Accepted : Wanted → (List ℕ → Told) → Type 0
-Accepted w old = OfBytes (old w.file) (λ file. report w.top file ≡ None)
+Accepted w old = OfFiles w old (λ files. report w.top files ≡ None)
 
 -- the text stands under OUT, where something was told of OUT
 abbrev pub OutputHolds : Wanted → (List ℕ → Told) → (List ℕ → Told) → Type 0
-OutputHolds w old new = OfBytes (old w.file) (λ file. Holds w.output (written file).text old new)
+OutputHolds w old new = OfFiles w old (λ files. Holds w.output (written files).text old new)
 
 -- the map stands under MAP, where something was told of MAP
 abbrev pub MapHolds : Wanted → (List ℕ → Told) → (List ℕ → Told) → Type 0
-MapHolds w old new = OfBytes (old w.file) (λ file. Holds w.map (written file).map old new)
+MapHolds w old new = OfFiles w old (λ files. Holds w.map (written files).map old new)
 
--- that text and that map stand for the file
+-- that text and that map stand for the files
 abbrev pub BothStand : Wanted → (List ℕ → Told) → Type 0
-BothStand w old = OfBytes (old w.file) (λ file. Stands w.top file (written file).text (written file).map)
+BothStand w old = OfFiles w old (λ files. Stands w.top files (written files).text (written files).map)
 
--- a load of the file failed, and nothing is saved
-pub record ReadFailed (w : Wanted) (old new : List ℕ → Told) (loads loaded : List ℕ → ℕ) : Type 0 where
-  pub rose : Rose (loads w.file) (loaded w.file)
+-- a load of the file of this number failed, and nothing is saved
+pub record ReadFailed (w : Wanted) (number : ℕ) (old new : List ℕ → Told) (loads loaded : List ℕ → ℕ) : Type 0 where
+  pub load : LoadFailed w.files number old loads loaded
   pub same : KeepsAll old new
 
--- These bytes break a rule. They are the file's where they are told, and nothing is saved.
-pub record RuleBroken (w : Wanted) (old new : List ℕ → Told) (bytes : List ℕ) (r : Report) : Type 0 where
-  pub told : report w.top bytes ≡ Some r
-  pub file : OfBytes (old w.file) (λ file. file ≡ bytes)
+-- These bytes break a rule. They are those of the files where they are told, and nothing is saved.
+pub record RuleBroken (w : Wanted) (old new : List ℕ → Told) (bytes : List (List ℕ)) (r : Report) : Type 0 where
+  pub broken : report w.top bytes ≡ Some r
+  pub loaded : OfFiles w old (λ files. files ≡ bytes)
   pub same : KeepsAll old new
 
 -- OUT is saved, and of every other name the same is told

@@ -1,13 +1,13 @@
 -- What the top call did, by its status. P says what has been printed of a line: the whole of it, or some first part.
-use Rattle.std.specs.Prelude.{◌≡◌, ℕ, List, Option, IsSomeAnd, MatchOption, ◌⊎◌}
+use Rattle.std.specs.Prelude.{◌≡◌, ℕ, List, All, Option, IsSomeAnd, MatchOption, ◌⊎◌}
 use Rattle.std.specs.Io.KnownBytes.{Appends, Keeps}
 use Rattle.vv_base.specs.Outside.{Told, Rose, Holds, KeepsAll}
 use Rattle.vv_trans.specs.Translation.{Report, report, written, Stands}
 use Rattle.vv_top.specs.Words.{Wanted}
 use Rattle.vv_top.specs.Lines.{read_line, write_line, report_line, memory_line}
-use Rattle.vv_top.specs.Run.{OfBytes, OutputHolds, MapHolds, Accepted, BothStand, ReadFailed, OutputFailed, MapFailed}
+use Rattle.vv_top.specs.Run.{OfFiles, OutputHolds, MapHolds, Accepted, BothStand, ReadFailed, OutputFailed, MapFailed}
 
--- status 0: text and map are saved and stand for the file, and nothing is printed
+-- status 0: text and map are saved and stand for the files, and nothing is printed
 pub record IsDone (w : Wanted) (held kept : List ℕ → Told) (old new : Option (List ℕ)) : Type 0 where
   pub accepted : Accepted w held
   pub output : OutputHolds w held kept
@@ -15,15 +15,16 @@ pub record IsDone (w : Wanted) (held kept : List ℕ → Told) (old new : Option
   pub stands : BothStand w held
   pub silent : Keeps old new
 
--- the file breaks a rule, and nothing is saved
+-- the files break a rule, and nothing is saved
 pub record IsRefused (w : Wanted) (held kept : List ℕ → Told) (P : List ℕ → Type 0) : Type 0 where
   pub same : KeepsAll held kept
-  pub line : OfBytes (held w.file) (λ file. IsSomeAnd (report w.top file) (λ r. P (report_line w.file file r)))
+  pub line : OfFiles w held (λ files. IsSomeAnd (report w.top files) (λ r. P (report_line w.files files r)))
 
--- a load of the file failed
+-- a load of one of the files failed
 pub record IsReadFault (w : Wanted) (held kept : List ℕ → Told) (loads loaded : List ℕ → ℕ) (P : List ℕ → Type 0) : Type 0 where
-  pub failed : ReadFailed w held kept loads loaded
-  pub line : P (read_line w.file)
+  pub number : ℕ
+  pub failed : ReadFailed w number held kept loads loaded
+  pub line : P (read_line w.files number)
 
 -- a save of OUT failed
 pub record IsOutputFault (w : Wanted) (held kept : List ℕ → Told) (saves saved : List ℕ → ℕ) (P : List ℕ → Type 0) : Type 0 where
@@ -47,28 +48,28 @@ IsStopped w held kept loads loaded saves saved P =
     ⊎ (IsSaveFault w held kept saves saved P
     ⊎ P memory_line))
 
--- no load of the word that is loaded, no save of one that is saved and no put failed
+-- no load of a word that is loaded, no save of one that is saved and no put failed
 pub record NoFault (w : Wanted) (loads loaded saves saved : List ℕ → ℕ) (before now : ℕ) : Type 0 where
-  pub load : ¬ Rose (loads w.file) (loaded w.file)
+  pub load : All (λ name. ¬ Rose (loads name) (loaded name)) w.files
   pub output : ¬ Rose (saves w.output) (saved w.output)
   pub map : ¬ Rose (saves w.map) (saved w.map)
   pub put : ¬ Rose before now
 
--- an accepted file: status 0, text and map are saved and stand for it, and nothing is printed
-pub record Accepts (w : Wanted) (file : List ℕ) (status : ℕ) (held kept : List ℕ → Told) (old new : Option (List ℕ)) : Type 0 where
+-- accepted files: status 0, text and map are saved and stand for them, and nothing is printed
+pub record Accepts (w : Wanted) (files : List (List ℕ)) (status : ℕ) (held kept : List ℕ → Told) (old new : Option (List ℕ)) : Type 0 where
   pub answer : status ≡ 0
-  pub output : Holds w.output (written file).text held kept
-  pub map : Holds w.map (written file).map held kept
-  pub stands : Stands w.top file (written file).text (written file).map
+  pub output : Holds w.output (written files).text held kept
+  pub map : Holds w.map (written files).map held kept
+  pub stands : Stands w.top files (written files).text (written files).map
   pub silent : Keeps old new
 
--- a refused file: status 1, nothing is saved, and the rule and its place are printed
-pub record Refuses (w : Wanted) (file : List ℕ) (r : Report) (status : ℕ) (held kept : List ℕ → Told) (old new : Option (List ℕ)) : Type 0 where
+-- refused files: status 1, nothing is saved, and the rule, its file and its place are printed
+pub record Refuses (w : Wanted) (files : List (List ℕ)) (r : Report) (status : ℕ) (held kept : List ℕ → Told) (old new : Option (List ℕ)) : Type 0 where
   pub answer : status ≡ 1
   pub same : KeepsAll held kept
-  pub line : Appends old new (report_line w.file file r)
+  pub line : Appends old new (report_line w.files files r)
 
--- what a translation of this file is
-abbrev pub Translates : Wanted → List ℕ → ℕ → (List ℕ → Told) → (List ℕ → Told) → Option (List ℕ) → Option (List ℕ) → Type 0
-Translates w file status held kept old new =
-    MatchOption (report w.top file) (Accepts w file status held kept old new) (λ r. Refuses w file r status held kept old new)
+-- what a translation of these files is
+abbrev pub Translates : Wanted → List (List ℕ) → ℕ → (List ℕ → Told) → (List ℕ → Told) → Option (List ℕ) → Option (List ℕ) → Type 0
+Translates w files status held kept old new =
+    MatchOption (report w.top files) (Accepts w files status held kept old new) (λ r. Refuses w files r status held kept old new)

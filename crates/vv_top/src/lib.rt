@@ -2,6 +2,7 @@
 #![tactic(auto)]
 
 pub mod lines;
+pub mod loads;
 pub mod run;
 pub mod tell;
 #[cfg(test)]

@@ -1,6 +1,6 @@
 //! What is printed when a translation stops.
 
-ghost use Rattle.std.specs.Prelude.{◌≤◌, IfOk, OnErr, string_bytes};
+ghost use Rattle.std.specs.Prelude.{◌≤◌, IfOk, OnErr, length, string_bytes};
 ghost use Rattle.vv_top.specs.Lines.{name_line, memory_line, Announced, Said};
 ghost use Rattle.vv_top.specs.Words.{wanted};
 ghost use Rattle.vv_top.specs.Stops.{line_of, status_of, IsInside};
@@ -13,20 +13,23 @@ use vv_base::sink::Sink;
 
 /// Prints the line of a stop and answers its status.
 pub fn tell<O: Sink>(alloc: Global, command: &Command<'_>, stop: Stop, out: &mut O) -> u8
-    requires { IsInside stop }
+    requires { IsInside (length command.now.files.now) stop }
     ensures told { Announced (line_of (wanted command.now) stop) (status_of stop) result
         (O.written out.old) (O.written out.new) (O.faults out.old) (O.faults out.new) }
     ensures later { O.faults out.old ≤ O.faults out.new }
 {
     match stop {
-        Stop::ReadFault => tell_name(alloc, "read fault: ", command.file, 3, out),
+        Stop::ReadFault(number) => {
+            tell_name(alloc, "read fault: ", command.files[number], 3, out)
+        }
         Stop::OutputFault => tell_name(alloc, "write fault: ", command.output, 4, out),
         Stop::MapFault => tell_name(alloc, "write fault: ", command.map, 4, out),
-        Stop::Refused(file, refusal) => {
+        Stop::Refused(files, refusal) => {
+            let number = refusal.span.file as usize;
             let line = place_line(
                 alloc,
-                command.file,
-                file.as_slice(),
+                command.files[number],
+                files[number].as_slice(),
                 refusal.span.at,
                 refusal.rule.code(),
             );

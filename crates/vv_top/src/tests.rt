@@ -80,6 +80,7 @@ fn refuses_files(rt: HostRuntime) -> Result<(), Fail> {
         ("gate", b"library\n\nieee;\n".as_slice(), "e.vhd:4:1: Y1\n"),
         ("gate", too_long.as_slice(), "e.vhd:1:1: L1\n"),
         ("other", other_top.as_bytes(), "e.vhd:1:1: N1\n"),
+        ("gate", b"y <= \"01".as_slice(), "e.vhd:1:6: X2\n"),
     ] {
         let mut shelf = shelf_with(alloc, "e.vhd", file, &[])?;
         let mut out = MemSink::new(alloc, &[])?;
@@ -98,7 +99,9 @@ fn refuses_words(rt: HostRuntime) -> Result<(), Fail> {
     for line in [
         "",
         "translate gate g.v g.csv",
-        "translate gate g.v g.csv g.vhd h.vhd",
+        "translate gate g.v g.csv g.vhd g.vhd",
+        "translate gate g.v g.csv h.vhd g.vhd h.vhd",
+        "translate gate g.v h.vhd g.vhd h.vhd",
         "translate gate g.v g.v g.vhd",
         "translate gate g.vhd g.csv g.vhd",
         "translate gate g.v g.vhd g.vhd",
@@ -114,6 +117,66 @@ fn refuses_words(rt: HostRuntime) -> Result<(), Fail> {
         assert_eq!(rt; out.bytes(), b"usage\n".as_slice());
         assert!(rt; shelf.get("g.v").is_none() && shelf.get("g.csv").is_none());
         assert_eq!(rt; shelf.get("g.vhd").ok_or("no file")?, file.as_bytes());
+    }
+    Ok(())
+}
+
+#[test]
+fn refuses_the_first_broken_file(rt: HostRuntime) -> Result<(), Fail> {
+    let alloc = rt.alloc();
+    let sound = gate(alloc, "y <= a;")?;
+    let long = vec![in alloc; b' '; 16_777_217]?;
+    for (first, second, line) in [
+        (sound.as_bytes(), sound.as_bytes(), "h.vhd:1:1: Y1\n"),
+        (b"".as_slice(), b"".as_slice(), "h.vhd:1:1: Y1\n"),
+        (sound.as_bytes(), b"y <= \"01".as_slice(), "h.vhd:1:6: X2\n"),
+        (
+            b"entity".as_slice(),
+            b"\n 1.5".as_slice(),
+            "h.vhd:2:2: X3\n",
+        ),
+        (b"a ?".as_slice(), b"?".as_slice(), "g.vhd:1:3: X1\n"),
+        (b"\\a\\".as_slice(), long.as_slice(), "g.vhd:1:1: X4\n"),
+        (sound.as_bytes(), long.as_slice(), "h.vhd:1:1: L1\n"),
+    ] {
+        let mut shelf = shelf_with(alloc, "g.vhd", first, &[])?;
+        shelf.set("h.vhd", second)?;
+        let mut out = MemSink::new(alloc, &[])?;
+        let words = ["translate", "gate", "g.v", "g.csv", "g.vhd", "h.vhd"];
+        assert_eq!(rt; v2v(alloc, &words, &mut shelf, &mut out), 1, "at {line}");
+        assert_eq!(rt; out.bytes(), line.as_bytes());
+        assert!(rt; shelf.get("g.v").is_none() && shelf.get("g.csv").is_none());
+    }
+    Ok(())
+}
+
+#[test]
+fn counts_files(rt: HostRuntime) -> Result<(), Fail> {
+    let alloc = rt.alloc();
+    let mut names: Vec<String> = Vec::new(alloc);
+    for number in 0..256 {
+        names.push(format!(in alloc; "f{number}.vhd")?)?;
+    }
+    for (count, status, line) in [
+        (0, 2, "usage\n"),
+        (255, 3, "read fault: f254.vhd\n"),
+        (256, 2, "usage\n"),
+    ] {
+        let mut shelf = MemShelf::new(alloc, &[])?;
+        for name in names.iter().take(254) {
+            shelf.set(name, b"")?;
+        }
+        let mut words: Vec<&str> = Vec::new(alloc);
+        for word in ["translate", "gate", "g.v", "g.csv"] {
+            words.push(word)?;
+        }
+        for name in names.iter().take(count) {
+            words.push(name)?;
+        }
+        let mut out = MemSink::new(alloc, &[])?;
+        let found = v2v(alloc, words.as_slice(), &mut shelf, &mut out);
+        assert_eq!(rt; found, status, "at {count}");
+        assert_eq!(rt; out.bytes(), line.as_bytes());
     }
     Ok(())
 }

@@ -5,7 +5,7 @@ ghost use Rattle.std.specs.Io.KnownBytes.{Appends, Keeps};
 ghost use Rattle.vv_base.specs.Outside.{Rose, KeepsAll, NoneFell};
 ghost use Rattle.vv_top.specs.Lines.{Said, Cut, usage_line, memory_line};
 ghost use Rattle.vv_top.specs.Words.{asked};
-ghost use Rattle.vv_top.specs.Run.{KeepsBut, Saved, SavedPart, OfBytes};
+ghost use Rattle.vv_top.specs.Run.{KeepsBut, Saved, SavedPart, OfFiles};
 ghost use Rattle.vv_top.specs.Top.{IsDone, IsRefused, IsReadFault, IsSaveFault, IsStopped, NoFault, Translates};
 
 use crate::lines::say;
@@ -16,12 +16,13 @@ use std::alloc::Global;
 use vv_base::shelf::Shelf;
 use vv_base::sink::Sink;
 
-/// Does the command `translate TOP OUT MAP FILE`, which the words are to be, and answers its status.
+/// Does the command `translate TOP OUT MAP FILE` with further FILEs or none, which the words are to be, and answers its
+/// status. The FILEs are loaded in order before anything else is done.
 ///
-/// - 0: FILE was translated, and its text saved under OUT and its map under MAP. Nothing is printed.
-/// - 1: FILE breaks a rule. `FILE:LINE:COL: CODE` is printed.
+/// - 0: the FILEs were translated, and their text saved under OUT and their map under MAP. Nothing is printed.
+/// - 1: the FILEs break a rule. `FILE:LINE:COL: CODE` is printed, with the FILE that the place is in.
 /// - 2: the words are no command. `usage` is printed.
-/// - 3: a load of FILE failed. `read fault: FILE` is printed.
+/// - 3: a load of a FILE failed, and those before it did not. `read fault: FILE` is printed.
 /// - 4: a save of a name failed, and `write fault: NAME` is printed; or a put failed, and some first part of its
 ///   line is printed.
 /// - 5: there is no memory left. `memory` is printed, or nothing where the put had no memory.
@@ -68,14 +69,14 @@ pub fn v2v<D: Shelf, O: Sink>(alloc: Global, words: &[&str], shelf: &mut D, out:
         (¬ Rose (D.failed_saves shelf.old w.output) (D.failed_saves shelf.new w.output))
         → (¬ Rose (D.failed_saves shelf.old w.map) (D.failed_saves shelf.new w.map))
         → SavedPart w (D.held shelf.old) (D.held shelf.new)) }
-    // with no fault and no want of memory, what a file comes to is settled by its bytes
+    // with no fault and no want of memory, what the files come to is settled by their bytes
     ensures headline { IfSome (asked words.now) (λ w.
         NoFault w (D.failed_loads shelf.old) (D.failed_loads shelf.new)
         (D.failed_saves shelf.old) (D.failed_saves shelf.new)
         (O.faults out.old) (O.faults out.new)
         → result ≢ 5
-        → OfBytes (D.held shelf.old w.file) (λ file.
-        Translates w file result (D.held shelf.old) (D.held shelf.new)
+        → OfFiles w (D.held shelf.old) (λ files.
+        Translates w files result (D.held shelf.old) (D.held shelf.new)
         (O.written out.old) (O.written out.new))) }
 {
     let Some(command) = Command::from_words(words) else {

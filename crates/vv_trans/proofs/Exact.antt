@@ -1,8 +1,7 @@
--- The report is that of the rule that is broken, and no other one is.
-use Rattle.std.proofs.Common.{◌≡◌, ℕ, ◌≤◌, Bool, true, false, nat_lt, if◌then◌else◌, List, [], ◌∷◌, ◌++◌, length, map, Option, Some, None, option_map, MatchOption, refl, sym, ap, ◌∙◌, subst, append_assoc, arith, ◌⊎◌, inl, inr}
-use Rattle.std.proofs.lemmas.Bool.{ltb-true, ltb-false, lt-ltb, le-ltb}
+-- What the gates report of one file is the rule that is broken, and no other one is.
+use Rattle.std.proofs.Common.{◌≡◌, ℕ, List, [], ◌∷◌, ◌++◌, map, Option, Some, None, option_map, MatchOption, refl, sym, ap, ◌∙◌, subst, append_assoc, arith, ◌⊎◌, inl, inr}
 use Rattle.std.proofs.lemmas.List.{map-append}
-use Rattle.vv_base.specs.declared.rules.Rule.TheVariants.{L1, Y1, N1}
+use Rattle.vv_base.specs.declared.rules.Rule.TheVariants.{Y1, N1}
 use Rattle.vv_gate.specs.Tree.{GateFile}
 use Rattle.vv_gate.specs.Conditions.{IsSound, IsFirstBroken}
 use Rattle.vv_gate_lex.specs.Symbols.{Symbol, Token}
@@ -14,10 +13,10 @@ use Rattle.vv_gate_read.proofs.Order.{tokens-ordered}
 use Rattle.vv_gate_read.proofs.Judged.{read_well, stops_well}
 use Rattle.vv_gate_check.specs.Places.{first, broken_places}
 use Rattle.vv_gate_check.proofs.Law.{first_is_least}
-use Rattle.vv_trans.specs.Translation.{folded, most_bytes, reading_of, Report, report_of, report, IsReport, too_long, misplaced, broken, IsAccepted}
+use Rattle.vv_trans.specs.Translation.{folded, reading_of, Report, gate_report, HasElements, HasSyntax, IsReport, misplaced, broken, IsAccepted}
 
 abbrev broken_at : ℕ → Report
-broken_at at = record { rule = N1; at = at }
+broken_at at = record { rule = N1; file = 0; at = at }
 
 -- where two splits of one list stand
 abbrev Compared : (front other : List Token) (t u : Token) → Type 0
@@ -84,79 +83,77 @@ one_first top f at place h k =
     let b = k.least at h.here in
     omega (arith, a, b)
 
-not_longer : (n : ℕ) → nat_lt most_bytes n ≡ false → n ≤ most_bytes
-not_longer n h = ltb-false most_bytes n h
-
 some_none : (r : Report) → Some r ≡ None → ⊥
 some_none r e = cc
 
 same_report : (a b : Report) → Some a ≡ Some b → a ≡ b
 same_report a b e = cc
 
-told_of : (top file : List ℕ) (r : Report) (o : Outcome) → length file ≤ most_bytes → reading_of file ≡ o → report_of (folded top) o ≡ Some r → IsReport top file r
-told_of top file r (Stops at) short is e =
-    subst (IsReport top file) (same_report (record { rule = Y1; at = at }) r e) (misplaced at short (stops_well at (tokens_of (folded file)) (tokens-ordered (folded file)) is))
-told_of top file r (Reads f) short is e =
+-- a report of one file, which is alone and has its elements
+told_of : (top file : List ℕ) (files : List (List ℕ)) (r : Report) (o : Outcome) → files ≡ file ∷ [] → HasElements file → HasSyntax file → reading_of file ≡ o
+    → gate_report (folded top) o ≡ Some r → IsReport top files r
+told_of top file files r (Stops at) alone h k is e =
+    subst (IsReport top files) (same_report (record { rule = Y1; file = 0; at = at }) r e)
+    (misplaced file at alone h k (stops_well at (tokens_of (folded file)) (tokens-ordered (folded file)) is))
+told_of top file files r (Reads f) alone h k is e =
     let reading = read_well f (tokens_of (folded file)) (tokens-ordered (folded file)) is in
     told_first (first (broken_places (folded top) f)) refl reading e
   where
-    told_first : (place : Option ℕ) → place ≡ first (broken_places (folded top) f) → IsReading f (tokens_of (folded file)) → option_map broken_at place ≡ Some r → IsReport top file r
+    told_first : (place : Option ℕ) → place ≡ first (broken_places (folded top) f) → IsReading f (tokens_of (folded file)) → option_map broken_at place ≡ Some r → IsReport top files r
     told_first None q reading e = let z : None ≡ Some r = e in cc
     told_first (Some at) q reading e =
-        subst (IsReport top file) (same_report (record { rule = N1; at = at }) r e) (broken at f short reading (first_is_least (folded top) f (Some at) reading.placed q))
+        subst (IsReport top files) (same_report (record { rule = N1; file = 0; at = at }) r e)
+        (broken file at f alone h k reading (first_is_least (folded top) f (Some at) reading.placed q))
 
-told_at : (top file : List ℕ) (r : Report) (b : Bool) → nat_lt most_bytes (length file) ≡ b
-    → (if b then Some (record { rule = L1; at = 0 }) else report_of (folded top) (reading_of file)) ≡ Some r → IsReport top file r
-told_at top file r true h e = subst (IsReport top file) (same_report (record { rule = L1; at = 0 }) r e) (too_long (ltb-true most_bytes (length file) h))
-told_at top file r false h e = told_of top file r (reading_of file) (not_longer (length file) h) refl e
+pub gate_told : (top file : List ℕ) (files : List (List ℕ)) (r : Report) → files ≡ file ∷ [] → HasElements file → HasSyntax file → gate_report (folded top) (reading_of file) ≡ Some r
+    → IsReport top files r
+gate_told top file files r alone h k e = told_of top file files r (reading_of file) alone h k refl e
 
-pub told : (top file : List ℕ) (r : Report) → report top file ≡ Some r → IsReport top file r
-unfolding report
-told top file r e = told_at top file r (nat_lt most_bytes (length file)) refl e
-
-short_report : (top file : List ℕ) → length file ≤ most_bytes → report top file ≡ report_of (folded top) (reading_of file)
-unfolding report
-short_report top file h = ap (λ (b : Bool). if b then Some (record { rule = L1; at = 0 }) else report_of (folded top) (reading_of file)) (le-ltb most_bytes (length file) h)
-
-only_misplaced : (top file : List ℕ) (at : ℕ) (o : Outcome) → IsMisplaced (tokens_of (folded file)) at → reading_of file ≡ o → report_of (folded top) o ≡ Some (record { rule = Y1; at = at })
+only_misplaced : (top file : List ℕ) (at : ℕ) (o : Outcome) → IsMisplaced (tokens_of (folded file)) at → reading_of file ≡ o → gate_report (folded top) o ≡ Some (record { rule = Y1; file = 0; at = at })
 only_misplaced top file at (Stops place) m is =
-    ap (λ (n : ℕ). Some (record { rule = Y1; at = n })) (one_place (tokens_of (folded file)) place at (stops_well place (tokens_of (folded file)) (tokens-ordered (folded file)) is) m)
+    ap (λ (n : ℕ). Some (record { rule = Y1; file = 0; at = n })) (one_place (tokens_of (folded file)) place at (stops_well place (tokens_of (folded file)) (tokens-ordered (folded file)) is) m)
 only_misplaced top file at (Reads f) m is = absurd (no_text (tokens_of (folded file)) at f m (read_well f (tokens_of (folded file)) (tokens-ordered (folded file)) is).text)
 
 only_first : (top : List ℕ) (f : GateFile) (at : ℕ) (place : Option ℕ) → MatchOption place (IsSound top f) (IsFirstBroken top f) → IsFirstBroken top f at
-    → option_map broken_at place ≡ Some (record { rule = N1; at = at })
+    → option_map broken_at place ≡ Some (record { rule = N1; file = 0; at = at })
 only_first top f at None h k = absurd (h at k.here)
-only_first top f at (Some place) h k = ap (λ (n : ℕ). Some (record { rule = N1; at = n })) (one_first top f place at h k)
+only_first top f at (Some place) h k = ap (λ (n : ℕ). Some (record { rule = N1; file = 0; at = n })) (one_first top f place at h k)
 
 only_broken : (top file : List ℕ) (at : ℕ) (f : GateFile) (o : Outcome) → IsReading f (tokens_of (folded file)) → IsFirstBroken (folded top) f at → reading_of file ≡ o
-    → report_of (folded top) o ≡ Some (record { rule = N1; at = at })
+    → gate_report (folded top) o ≡ Some (record { rule = N1; file = 0; at = at })
 only_broken top file at f (Stops place) r h is = absurd (no_text (tokens_of (folded file)) place f (stops_well place (tokens_of (folded file)) (tokens-ordered (folded file)) is) r.text)
 only_broken top file at f (Reads g) r h is =
     let same : g ≡ f = r.only g (read_well g (tokens_of (folded file)) (tokens-ordered (folded file)) is).text in
     ap (λ (x : GateFile). option_map broken_at (first (broken_places (folded top) x))) same
     ∙ only_first (folded top) f at (first (broken_places (folded top) f)) (first_is_least (folded top) f (first (broken_places (folded top) f)) r.placed refl) h
 
-pub only : (top file : List ℕ) (r : Report) → IsReport top file r → report top file ≡ Some r
-unfolding report
-only top file r (too_long h) = ap (λ (b : Bool). if b then Some (record { rule = L1; at = 0 }) else report_of (folded top) (reading_of file)) (lt-ltb most_bytes (length file) h)
-only top file r (misplaced at short m) = short_report top file short ∙ only_misplaced top file at (reading_of file) m refl
-only top file r (broken at f short reading h) = short_report top file short ∙ only_broken top file at f (reading_of file) reading h refl
+pub gate_misplaced : (top file : List ℕ) (at : ℕ) → IsMisplaced (tokens_of (folded file)) at
+    → gate_report (folded top) (reading_of file) ≡ Some (record { rule = Y1; file = 0; at = at })
+gate_misplaced top file at m = only_misplaced top file at (reading_of file) m refl
 
-accepted_of : (top file : List ℕ) (o : Outcome) → length file ≤ most_bytes → reading_of file ≡ o → report_of (folded top) o ≡ None → IsAccepted top file
-accepted_of top file (Stops at) short is e = absurd (some_none (record { rule = Y1; at = at }) e)
-accepted_of top file (Reads f) short is e =
+pub gate_broken : (top file : List ℕ) (at : ℕ) (f : GateFile) → IsReading f (tokens_of (folded file)) → IsFirstBroken (folded top) f at
+    → gate_report (folded top) (reading_of file) ≡ Some (record { rule = N1; file = 0; at = at })
+gate_broken top file at f reading h = only_broken top file at f (reading_of file) reading h refl
+
+accepted_of : (top file : List ℕ) (files : List (List ℕ)) (o : Outcome) → files ≡ file ∷ [] → HasElements file → HasSyntax file → reading_of file ≡ o
+    → gate_report (folded top) o ≡ None → IsAccepted top files
+accepted_of top file files (Stops at) alone h k is e = absurd (some_none (record { rule = Y1; file = 0; at = at }) e)
+accepted_of top file files (Reads f) alone h k is e =
     let reading = read_well f (tokens_of (folded file)) (tokens-ordered (folded file)) is in
-    record { short = short; tree = f; reading = reading; sound = sound_at (first (broken_places (folded top) f)) e (first_is_least (folded top) f (first (broken_places (folded top) f)) reading.placed refl) }
+    record {
+      file = file;
+      alone = alone;
+      lexical = h;
+      parses = k;
+      tree = f;
+      reading = reading;
+      sound = sound_at (first (broken_places (folded top) f)) e (first_is_least (folded top) f (first (broken_places (folded top) f)) reading.placed refl);
+    }
   where
     sound_at : (place : Option ℕ) → option_map broken_at place ≡ None → MatchOption place (IsSound (folded top) f) (IsFirstBroken (folded top) f) → IsSound (folded top) f
     sound_at None e h = h
-    sound_at (Some at) e h = absurd (some_none (record { rule = N1; at = at }) e)
+    sound_at (Some at) e h = absurd (some_none (record { rule = N1; file = 0; at = at }) e)
 
-accepted_at : (top file : List ℕ) (b : Bool) → nat_lt most_bytes (length file) ≡ b
-    → (if b then Some (record { rule = L1; at = 0 }) else report_of (folded top) (reading_of file)) ≡ None → IsAccepted top file
-accepted_at top file true h e = absurd (some_none (record { rule = L1; at = 0 }) e)
-accepted_at top file false h e = accepted_of top file (reading_of file) (not_longer (length file) h) refl e
-
-pub accepted : (top file : List ℕ) → report top file ≡ None → IsAccepted top file
-unfolding report
-accepted top file e = accepted_at top file (nat_lt most_bytes (length file)) refl e
+pub gate_accepted : (top file : List ℕ) (files : List (List ℕ)) → files ≡ file ∷ [] → HasElements file → HasSyntax file → gate_report (folded top) (reading_of file) ≡ None
+    → IsAccepted top files
+gate_accepted top file files alone h k e = accepted_of top file files (reading_of file) alone h k refl e

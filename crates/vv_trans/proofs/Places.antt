@@ -17,7 +17,7 @@ use Rattle.vv_vast.specs.Grammar.{VerilogText}
 use Rattle.vv_vast.specs.Flat.{Flat, FlatDesign}
 use Rattle.vv_gate_agree.proofs.Meaning.{text_keeps_meaning}
 use Rattle.vv_vast.proofs.OneTree.{one_text}
-use Rattle.vv_trans.specs.Translation.{folded, Stands}
+use Rattle.vv_trans.specs.Translation.{folded, IsTranslation}
 use Rattle.vv_gate_check.specs.Places.{first, broken_places}
 use Rattle.vv_gate_check.proofs.Law.{first_among}
 
@@ -51,8 +51,7 @@ place_in_file top bytes f at r e = elim (first_among top f at e) [
 -- what stands for the file, from its parts
 pub stands : (top file word bytes text lines : List ℕ) (f : GateFile) → bytes ≡ folded file → word ≡ folded top → IsReading f (tokens_of bytes) → IsSound word f
     → text ≡ text_of f → VerilogText (module_of f ∷ []) text → ((top : List ℕ) → IsSound top f → (flat : Flat) × FlatDesign (module_of f ∷ []) (mangled f.entity.text) flat) → lines ≡ map_of f
-    → Stands top file text lines
-unfolding Stands
+    → IsTranslation top file text lines
 stands top file word bytes text lines f b n reading sound text_is verilog flat map_is =
     let design = flat word sound in
     record {

@@ -1,6 +1,6 @@
-//! From the bytes of a file to text and map.
+//! From the bytes of files to text and map.
 
-ghost use Rattle.std.specs.Prelude.{◌≡◌, ◌≤◌, ◌<◌, List, ℕ, [], ◌∷◌, None, Some, IfOk, IfErr, length};
+ghost use Rattle.std.specs.Prelude.{◌≡◌, ◌≤◌, ◌<◌, List, ℕ, [], ◌∷◌, None, Some, OnOk, IfOk, IfErr, length, get_or, map, slice_get};
 ghost use Rattle.vv_base.specs.declared.rules.Rule.TheVariants.{Y1};
 ghost use Rattle.vv_gate.specs.Conditions.{IsSound};
 ghost use Rattle.vv_gate.specs.View.{file_of};
@@ -12,22 +12,27 @@ ghost use Rattle.vv_gate_text.specs.Made.{module_of};
 ghost use Rattle.vv_gate_text.specs.Map.{map_of};
 ghost use Rattle.vv_gate_text.specs.Names.{mangled};
 ghost use Rattle.vv_gate_text.specs.Text.{text_of};
-ghost use Rattle.vv_trans.specs.Faults.{ForRefused};
-ghost use Rattle.vv_trans.specs.Translation.{report, written, Stands, Report, IsReport};
+ghost use Rattle.vv_trans.specs.Parsing as spec;
+ghost use Rattle.vv_trans.specs.Parsing.{judged, offset_of, parsed, syntax};
+ghost use Rattle.vv_vlex.specs.Elements.{lexeme_of};
+ghost use Rattle.vv_trans.specs.Translation.{bytes_of, folded, gate_report, lexing, parsing, reading_of, report, told, written, written_of, ForRefused, IsTranslation, Stands, Report, IsReport};
 ghost use Rattle.vv_vast.specs.Flat.{Flat, FlatDesign};
 ghost use Rattle.vv_vast.specs.Grammar.{VerilogText};
 
 use std::alloc::Global;
-use vv_base::fault::{Fault, Refusal, Rule, Span};
+use vv_base::fault::{Fault, Memory, Name, Refusal, Rule, Span};
 use vv_base::text::ByteList;
 use vv_gate::tree::GateFile;
 use vv_gate_check::first_broken;
 use vv_gate_read::reader::{ReadFault, read};
 use vv_gate_text::map::map;
 use vv_gate_text::text::text;
-
-/// A source file has at most this many bytes.
-pub const MOST_BYTES: usize = 16_777_216;
+use vv_grammar::edition::Edition;
+use vv_grammar::machine::{Stop, run};
+use vv_grammar::starts::FILE;
+use vv_vlex::element::{Element, Lexeme};
+use vv_vlex::lexer::elements;
+use vv_vlex::token::{Token, TokenKind, TokenList};
 
 /// The Verilog text and the map of names.
 #[derive(Drop)]
@@ -36,19 +41,139 @@ pub struct Out {
     pub map: ByteList,
 }
 
-/// A refusal at a place of the file.
-fn refused(rule: Rule, at: usize) -> Fault
+/// A refusal at a place of a file.
+fn refused(rule: Rule, file: u32, at: usize) -> Fault
     requires { at ≤ 16777216 }
-    ensures rule { ForRefused result (λ r. r.rule ≡ rule) }
-    ensures at { ForRefused result (λ r. r.span.at ≡ at) }
+    ensures told { ForRefused result (λ r. told r ≡ record { rule = rule; file = file; at = at }) }
+    ensures file { ForRefused result (λ r. r.span.file ≡ file) }
     ensures inside { (n : ℕ) → at ≤ n → ForRefused result (λ r. r.span.at ≤ n) }
 {
     let span = Span {
-        file: 0,
+        file,
         at: at as u32,
         len: 0,
     };
     Fault::Refused(Refusal { rule, span })
+}
+
+/// The limit and the lexical elements of each file, in order. No later phase uses the elements, so they are not kept.
+fn lex_files(alloc: Global, files: &[&[u8]]) -> Result<(), Fault>
+    requires { length files.now ≤ 255 }
+    ensures lexed { OnOk result (lexing 0 (bytes_of files.now) ≡ None) }
+    ensures refused { IfErr result (λ fault. ForRefused fault (λ r. lexing 0 (bytes_of files.now) ≡ Some (told r))) }
+{
+    for (number, file) in files.iter().enumerate() {
+        if let Err(fault) = elements(alloc, number as u32, file) {
+            return Err(fault);
+        }
+    }
+    Ok(())
+}
+
+/// A refusal at a token.
+fn at_token(rule: Rule, number: u32, tokens: &[Token], token: usize) -> Fault
+    ensures rule { ForRefused result (λ r. r.rule ≡ rule) }
+    ensures at { ForRefused result (λ r. r.span.at ≡ offset_of (slice_get tokens.now token)) }
+    ensures file { ForRefused result (λ r. r.span.file ≡ number) }
+{
+    let span = match tokens.get(token) {
+        Some(token) => Span {
+            file: number,
+            at: token.span.at,
+            len: token.span.len,
+        },
+        None => Span {
+            file: number,
+            at: 0,
+            len: 0,
+        },
+    };
+    Fault::Refused(Refusal { rule, span })
+}
+
+/// The syntax of the tokens of a file.
+fn judge(alloc: Global, number: u32, tokens: &[Token]) -> Result<(), Fault>
+    ensures passed { OnOk result (judged tokens.now (parsed tokens.now) ≡ None) }
+    ensures refused { IfErr result (λ fault. ForRefused fault (λ r. judged tokens.now (parsed tokens.now) ≡ Some (record { rule = r.rule; at = r.span.at }))) }
+    ensures file { IfErr result (λ fault. ForRefused fault (λ r. r.span.file ≡ number)) }
+{
+    match run(alloc, Edition::Vhdl93, &FILE, tokens, 0) {
+        Ok(_) => Ok(()),
+        Err(Stop::Memory) => Err(Fault::Memory),
+        Err(Stop::Misplaced(token)) => Err(at_token(Rule::Y1, number, tokens, token)),
+        Err(Stop::Deep(token)) => Err(at_token(Rule::Y2, number, tokens, token)),
+    }
+}
+
+/// What the grammar sees of an element.
+fn bare_token(alloc: Global, lexeme: &Lexeme<'_>) -> Token
+    ensures { result ≡ spec.bare_token (lexeme_of lexeme.now) }
+{
+    let kind = match lexeme.element {
+        Element::Id(_) => TokenKind::Id(Name(0)),
+        Element::Word(word) => TokenKind::Word(word),
+        Element::Int(_) => TokenKind::Int(0),
+        Element::Char(byte) => TokenKind::Char {
+            byte,
+            name: Name(0),
+        },
+        Element::Str { .. } => TokenKind::Str {
+            bytes: ByteList::new(alloc),
+            name: Name(0),
+        },
+        Element::BitStr(_) => TokenKind::BitStr(ByteList::new(alloc)),
+        Element::Sign(sign) => TokenKind::Sign(sign),
+        Element::End => TokenKind::End,
+    };
+    let span = Span {
+        file: 0,
+        at: lexeme.at,
+        len: lexeme.len,
+    };
+    Token { kind, span }
+}
+
+/// What the grammar sees of the elements of a file.
+fn bare_tokens(alloc: Global, elements: &[Lexeme<'_>]) -> Result<TokenList, Memory>
+    ensures { IfOk result (λ tokens. tokens ≡ spec.bare_tokens (map lexeme_of elements.now)) }
+{
+    let mut tokens = TokenList::new(alloc);
+    for lexeme in elements {
+        tokens.push(bare_token(alloc, lexeme))?;
+    }
+    Ok(tokens)
+}
+
+/// The syntax of a file whose elements are sound.
+#[tactic(auto, unfolding(crate::specs::Parsing::syntax))]
+fn parse_file(alloc: Global, number: u32, file: &[u8]) -> Result<(), Fault>
+    ensures passed { OnOk result (syntax file.now ≡ None) }
+    ensures refused { IfErr result (λ fault. ForRefused fault (λ r. syntax file.now ≡ Some (record { rule = r.rule; at = r.span.at }))) }
+    ensures file { IfErr result (λ fault. ForRefused fault (λ r. r.span.file ≡ number)) }
+{
+    match elements(alloc, number, file) {
+        Ok(found) => match bare_tokens(alloc, found.as_slice()) {
+            Ok(tokens) => judge(alloc, number, tokens.as_slice()),
+            Err(_) => Err(Fault::Memory),
+        },
+        // The phase before this one has told it.
+        Err(Fault::Refused(_)) => Ok(()),
+        Err(Fault::Memory) => Err(Fault::Memory),
+    }
+}
+
+/// The syntax of each file, in order. No later phase uses the tokens, so they are not kept.
+fn parse_files(alloc: Global, files: &[&[u8]]) -> Result<(), Fault>
+    requires { length files.now ≤ 255 }
+    ensures parsed { OnOk result (parsing 0 (bytes_of files.now) ≡ None) }
+    ensures refused { IfErr result (λ fault. ForRefused fault (λ r. parsing 0 (bytes_of files.now) ≡ Some (told r))) }
+{
+    for (number, file) in files.iter().enumerate() {
+        if let Err(fault) = parse_file(alloc, number as u32, file) {
+            return Err(fault);
+        }
+    }
+    Ok(())
 }
 
 /// The tree of a file whose letters are folded to lower case.
@@ -56,13 +181,14 @@ fn tree_of<'a>(alloc: Global, bytes: &'a [u8]) -> Result<GateFile<'a>, Fault>
     requires { length bytes.now ≤ 16777216 }
     ensures tree { IfOk result (λ f. IsReading (file_of f) (tokens_of bytes.now)) }
     ensures reads { IfOk result (λ f. drive start (tokens_of bytes.now) ≡ Reads (file_of f)) }
-    ensures rule { IfErr result (λ fault. ForRefused fault (λ r. r.rule ≡ Y1)) }
+    ensures rule { IfErr result (λ fault. ForRefused fault (λ r. told r ≡ record { rule = Y1; file = 0; at = r.span.at })) }
+    ensures file { IfErr result (λ fault. ForRefused fault (λ r. r.span.file ≡ 0)) }
     ensures stops { IfErr result (λ fault. ForRefused fault (λ r. drive start (tokens_of bytes.now) ≡ Stops r.span.at)) }
     ensures inside { IfErr result (λ fault. ForRefused fault (λ r. r.span.at ≤ length bytes.now)) }
 {
     match read(alloc, bytes) {
         Ok(tree) => Ok(tree),
-        Err(ReadFault::Misplaced(at)) => Err(refused(Rule::Y1, at)),
+        Err(ReadFault::Misplaced(at)) => Err(refused(Rule::Y1, 0, at)),
         Err(ReadFault::Memory) => Err(Fault::Memory),
     }
 }
@@ -80,19 +206,17 @@ fn out_of(alloc: Global, tree: &GateFile<'_>) -> Result<Out, Fault>
     Ok(Out { text, map })
 }
 
-/// The translation of one file, or the rule that it breaks first and the place. The letter case of `top` is folded.
-#[tactic(auto, unfolding(crate::specs::Translation::report, crate::specs::Translation::written))]
-pub fn translate(alloc: Global, file: &[u8], top: &str) -> Result<Out, Fault>
-    ensures accepted { IfOk result (λ out. report top.now file.now ≡ None) }
-    ensures text { IfOk result (λ out. out.text ≡ (written file.now).text) }
-    ensures map { IfOk result (λ out. out.map ≡ (written file.now).map) }
-    ensures stands { IfOk result (λ out. Stands top.now file.now out.text out.map) }
-    ensures refused { IfErr result (λ fault. ForRefused fault (λ r. report top.now file.now ≡ Some (record { rule = r.rule; at = r.span.at }))) }
+/// The translation of one file of gates, or the rule that it breaks first and the place.
+fn translate_gates(alloc: Global, file: &[u8], top: &str) -> Result<Out, Fault>
+    requires { length file.now ≤ 16777216 }
+    ensures accepted { IfOk result (λ out. gate_report (folded top.now) (reading_of file.now) ≡ None) }
+    ensures text { IfOk result (λ out. out.text ≡ (written_of (reading_of file.now)).text) }
+    ensures map { IfOk result (λ out. out.map ≡ (written_of (reading_of file.now)).map) }
+    ensures stands { IfOk result (λ out. IsTranslation top.now file.now out.text out.map) }
+    ensures refused { IfErr result (λ fault. ForRefused fault (λ r. gate_report (folded top.now) (reading_of file.now) ≡ Some (told r))) }
+    ensures file { IfErr result (λ fault. ForRefused fault (λ r. r.span.file ≡ 0)) }
     ensures inside { IfErr result (λ fault. ForRefused fault (λ r. r.span.at ≤ length file.now)) }
 {
-    if file.len() > MOST_BYTES {
-        return Err(refused(Rule::L1, 0));
-    }
     let folded = file.to_ascii_lowercase(alloc)?;
     let name = top.as_bytes().to_ascii_lowercase(alloc)?;
     let tree = match tree_of(alloc, folded.as_slice()) {
@@ -104,7 +228,41 @@ pub fn translate(alloc: Global, file: &[u8], top: &str) -> Result<Out, Fault>
             Ok(out) => Ok(out),
             Err(_) => Err(Fault::Memory),
         },
-        Ok(Some(at)) => Err(refused(Rule::N1, at)),
+        Ok(Some(at)) => Err(refused(Rule::N1, 0, at)),
         Err(_) => Err(Fault::Memory),
+    }
+}
+
+/// The translation of the files, or the rule that they break first, with the file and the place. The letter case of `top`
+/// is folded.
+///
+/// The phases, of which the first with a broken rule reports:
+///
+/// 1. The limit and the lexical elements of every file. The first file that breaks one of `L1` and `X1` to `X5` is told.
+/// 2. The syntax of every file. The first file that breaks `Y1` or `Y2` is told.
+/// 3. The gates: one file alone is read and checked. Where there are more, the second one is `Y1` at its start, and
+///    no file at all is `Y1` at the start of the first.
+///
+/// A phase over the syntax of all files goes between the two.
+pub fn translate(alloc: Global, files: &[&[u8]], top: &str) -> Result<Out, Fault>
+    requires { length files.now ≤ 255 }
+    ensures accepted { IfOk result (λ out. report top.now (bytes_of files.now) ≡ None) }
+    ensures text { IfOk result (λ out. out.text ≡ (written (bytes_of files.now)).text) }
+    ensures map { IfOk result (λ out. out.map ≡ (written (bytes_of files.now)).map) }
+    ensures stands { IfOk result (λ out. Stands top.now (bytes_of files.now) out.text out.map) }
+    ensures refused { IfErr result (λ fault. ForRefused fault (λ r. report top.now (bytes_of files.now) ≡ Some (told r))) }
+    ensures file { IfErr result (λ fault. ForRefused fault (λ r. 0 < length files.now → r.span.file < length files.now)) }
+    ensures inside { IfErr result (λ fault. ForRefused fault (λ r. r.span.at ≤ length (get_or (bytes_of files.now) r.span.file []))) }
+{
+    if let Err(fault) = lex_files(alloc, files) {
+        return Err(fault);
+    }
+    if let Err(fault) = parse_files(alloc, files) {
+        return Err(fault);
+    }
+    match files {
+        [] => Err(refused(Rule::Y1, 0, 0)),
+        [file] => translate_gates(alloc, file, top),
+        [_, _, ..] => Err(refused(Rule::Y1, 1, 0)),
     }
 }

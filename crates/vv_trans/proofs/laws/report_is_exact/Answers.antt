@@ -1,11 +1,12 @@
-use Rattle.vv_trans.proofs.Exact.{told, only, accepted}
+use Rattle.vv_trans.specs.Translation.{bytes_of}
+use Rattle.vv_trans.proofs.Phases.{told_exactly, only_told, accepted_exactly}
 use Rattle.vv_trans.proofs.laws.report_is_exact.Goals as goal
 
 pub returns-clause-told : goal.returns-clause-told
-returns-clause-told c = λ r e. told c.args.top.now c.args.file.now r e
+returns-clause-told c = λ r e. told_exactly c.args.top.now (bytes_of c.args.files.now) r e
 
 pub returns-clause-only : goal.returns-clause-only
-returns-clause-only c = λ r h. only c.args.top.now c.args.file.now r h
+returns-clause-only c = λ r h. only_told c.args.top.now (bytes_of c.args.files.now) r h
 
 pub returns-clause-accepted : goal.returns-clause-accepted
-returns-clause-accepted c = λ e. accepted c.args.top.now c.args.file.now e
+returns-clause-accepted c = λ e. accepted_exactly c.args.top.now (bytes_of c.args.files.now) e

@@ -1,0 +1,7 @@
+use Rattle.std.proofs.Common.{◌≡◌, ◌-◌}
+use Rattle.vv_grammar.specs.Machine.{Leads, starting_with, drive, outcome, most_moves}
+use Rattle.vv_grammar.proofs.machine.run.Given as goal
+
+abbrev pub invariant-moves : goal.invariant-moves
+invariant-moves l = Leads l.edition l.tokens (starting_with l.steps l.at) l.at l.state.events.items l.state.stack l.state.at
+    × (drive (most_moves - l.counter) l.edition l.tokens l.state.stack l.state.at l.state.events.items ≡ outcome l.edition l.tokens (starting_with l.steps l.at) l.at)

@@ -1,0 +1,4 @@
+pub mod Terminals
+pub mod Trees
+pub mod Table
+pub mod Machine

@@ -1,0 +1,74 @@
+//! What the grammar sees of a token.
+
+ghost use Rattle.std.specs.Prelude.{◌≡◌, IsTrue};
+ghost use Rattle.vv_grammar.specs.Terminals.{kind_of, same, contains};
+
+use vv_vlex::sign::Sign;
+use vv_vlex::token::TokenKind;
+use vv_vlex::word::Word;
+
+/// A kind of tokens.
+#[derive(Clone, Copy, Debug, PartialEq, Eq)]
+pub enum Terminal {
+    Id,
+    Int,
+    Char,
+    Str,
+    BitStr,
+    /// A reserved word.
+    Key(Word),
+    Mark(Sign),
+    End,
+}
+
+/// The terminal of a token.
+pub fn terminal_of(kind: &TokenKind) -> Terminal
+    ensures { result ≡ kind_of kind.now }
+{
+    match kind {
+        TokenKind::Id(_) => Terminal::Id,
+        TokenKind::Word(word) => Terminal::Key(*word),
+        TokenKind::Int(_) => Terminal::Int,
+        TokenKind::Char { .. } => Terminal::Char,
+        TokenKind::Str { .. } => Terminal::Str,
+        TokenKind::BitStr(_) => Terminal::BitStr,
+        TokenKind::Sign(sign) => Terminal::Mark(*sign),
+        TokenKind::End => Terminal::End,
+    }
+}
+
+/// Whether these are one terminal.
+pub fn is_same(a: Terminal, b: Terminal) -> bool
+    ensures { result ≡ same a b }
+{
+    match a {
+        Terminal::Id => matches!(b, Terminal::Id),
+        Terminal::Int => matches!(b, Terminal::Int),
+        Terminal::Char => matches!(b, Terminal::Char),
+        Terminal::Str => matches!(b, Terminal::Str),
+        Terminal::BitStr => matches!(b, Terminal::BitStr),
+        Terminal::Key(word) => match b {
+            Terminal::Key(other) => word as u8 == other as u8,
+            _ => false,
+        },
+        Terminal::Mark(sign) => match b {
+            Terminal::Mark(other) => sign as u8 == other as u8,
+            _ => false,
+        },
+        Terminal::End => matches!(b, Terminal::End),
+    }
+}
+
+/// Whether the terminal is among these.
+pub fn is_among(terminal: Terminal, set: &[Terminal]) -> bool
+    ensures { result ≡ contains set.now terminal }
+{
+    let mut rest = set;
+    'others: while let [first, more @ ..] = rest {
+        if is_same(*first, terminal) {
+            return true;
+        }
+        rest = more;
+    }
+    false
+}
