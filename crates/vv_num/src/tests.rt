@@ -125,6 +125,6 @@ fn cells(rt: HostRuntime) -> Result<(), Fail> {
         Place { first: 4, size: 2 },
     );
     assert!(rt; inside);
-    assert_eq!(rt; (cells.get(4), cells.get(5), cells.get(6)), (2, 3, 0));
+    assert_eq!(rt; (cells.get(4), cells.get(5), cells.get(6)), (3, 3, 0));
     Ok(())
 }
