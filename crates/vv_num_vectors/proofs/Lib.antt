@@ -7,3 +7,4 @@ pub mod Joined
 pub mod Elements
 pub mod Integers
 pub mod Resized
+pub mod Turned

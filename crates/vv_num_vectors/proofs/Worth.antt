@@ -5,9 +5,10 @@ use Rattle.vv_bits.specs.declared.nine.S9.{S9}
 use Rattle.vv_types.specs.Number.{bit, number_of, residue}
 use Rattle.vv_types.proofs.Numbers.{length-vector_of, number_bound}
 use Rattle.vv_vectors.proofs.Places.{length-vector_at}
+use Rattle.vv_vectors.specs.Vectors.{number_at}
 use Rattle.vv_num_vectors.specs.declared.operand.Operand.{Operand}
 use Rattle.vv_num_vectors.specs.declared.operand.Operand.TheVariants.{Unsigned, Signed, Number}
-use Rattle.vv_num_vectors.specs.Operands.{IsIn, IsWorth, digits_of, elements_of, number_at, sign_of, size_of, value_of}
+use Rattle.vv_num_vectors.specs.Operands.{IsIn, IsWorth, digits_of, elements_of, sign_of, size_of, value_of}
 
 pub length-elements_of : (cells : List ℤ) (x : Operand) → IsIn cells x → length (elements_of cells x) ≡ size_of x
 length-elements_of cells (Unsigned place) lies = length-vector_at cells place (omega (arith, lies))

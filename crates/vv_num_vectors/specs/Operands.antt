@@ -4,19 +4,10 @@ use Rattle.vv_bits.specs.declared.nine.S9.{S9}
 use Rattle.vv_bits.specs.declared.nine.S9.TheVariants.{Zero}
 use Rattle.vv_types.specs.Number.{bit, has_meta, number_of, signed_number_of, signed_vector_of}
 use Rattle.vv_types.specs.declared.cells.Place.{Place}
-use Rattle.vv_vectors.specs.Vectors.{LiesIn, cells_at, vector_at, with_cells}
+use Rattle.vv_vectors.specs.Vectors.{LiesIn, number_at, vector_at, with_cells}
 use Rattle.vv_num_vectors.specs.declared.operand.Operand.{Operand}
 use Rattle.vv_num_vectors.specs.declared.operand.Operand.TheVariants.{Unsigned, Signed, Number}
 use Rattle.vv_num_vectors.specs.Rows.{leftmost}
-
--- the first number of some, 0 where there is none
-abbrev pub first_number : List ℤ → ℤ
-first_number [] = pos 0
-first_number (z ∷ zs) = z
-
--- the number in a place of one cell
-abbrev pub number_at : List ℤ → Place → ℤ
-number_at cells place = first_number (cells_at cells place)
 
 -- a place of one cell, with a number that is not below 0
 abbrev pub IsCount : List ℤ → Place → Type 0

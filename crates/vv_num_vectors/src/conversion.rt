@@ -2,8 +2,8 @@
 
 ghost use Rattle.std.specs.Prelude.{◌≡◌, is_some, length};
 ghost use Rattle.vv_types.specs.Number.{signed_vector_of};
-ghost use Rattle.vv_vectors.specs.Vectors.{LiesIn, with_vector};
-ghost use Rattle.vv_num_vectors.specs.Operands.{IsIn, is_meta_in, number_at, value_of, with_integer};
+ghost use Rattle.vv_vectors.specs.Vectors.{LiesIn, number_at, with_vector};
+ghost use Rattle.vv_num_vectors.specs.Operands.{IsIn, is_meta_in, value_of, with_integer};
 ghost use Rattle.vv_num_vectors.specs.Rows.{integer_from};
 
 use crate::operand::{Operand, counts};

@@ -1,9 +1,9 @@
 //! Shifts, rotations and changes of length: vectors that are made of parts of another one.
 
 ghost use Rattle.std.specs.Prelude.{◌≡◌, ◌<◌, ◌≤◌, ◌≤ℤ◌, pos, get_or, unsigned_abs, drop, take, ◌++◌, length};
-ghost use Rattle.vv_vectors.specs.Vectors.{Apart, LiesIn, vector_at, with_vector};
+ghost use Rattle.vv_vectors.specs.Vectors.{Apart, LiesIn, number_at, vector_at, with_vector};
 ghost use Rattle.vv_bits.specs.declared.nine.S9.TheVariants.{Zero};
-ghost use Rattle.vv_num_vectors.specs.Operands.{IsCount, number_at};
+ghost use Rattle.vv_num_vectors.specs.Operands.{IsCount};
 ghost use Rattle.vv_num_vectors.specs.Rows.{leftmost, shifted_left, shifted_right, rotated_left, rotated_right, resized_unsigned, resized_signed};
 ghost use Rattle.vv_num_vectors.specs.Parts.{HasPart, IsMadeFrom, made_of, part_of};
 

@@ -1,12 +1,11 @@
-use Rattle.std.proofs.Common.{rules, length, ◌≡◌, ◌+◌, ◌-◌, ◌++◌, replicate, ap, sym, ◌∙◌, arith, FitsSigned, w32, of_z}
+use Rattle.std.proofs.Common.{rules, length, ◌≡◌, ◌+◌, ◌-◌, ◌++◌, replicate, ap, sym, ◌∙◌, arith, FitsSigned, w32, of_z, get_or, pos}
 use Rattle.std.proofs.lemmas.Int.{to_z-of_z}
 use Rattle.std.proofs.lemmas.List.{length-replicate}
 use Rattle.vv_types.specs.Number.{signed_vector_of, vector_of}
 use Rattle.vv_types.proofs.Numbers.{length-vector_of, vector_of_bits}
 use Rattle.vv_num_vectors.proofs.Reading.{length_of_vector_kept}
-use Rattle.vv_vectors.specs.Vectors.{with_vector}
+use Rattle.vv_vectors.specs.Vectors.{number_at, with_vector}
 use Rattle.vv_num_vectors.specs.Rows.{leftmost}
-use Rattle.vv_num_vectors.specs.Operands.{first_number, number_at}
 use Rattle.vv_num_vectors.proofs.Joined.{joined, long_number}
 use Rattle.vv_num_vectors.proofs.conversion.to_vector.Goals as goal
 
@@ -17,7 +16,7 @@ returns-then-to-le32-clause-value c =
     let z = c.scalar.result in
     let fits : FitsSigned w32 z = search rules in
     let unsigned : c.cast_unsigned.result ≡ of_z w32 z = simp to_z-of_z at c.cast_unsigned.ensures in
-    let number : number_at old c.args.number ≡ z = ap first_number c.scalar.ensures in
+    let number : number_at old c.args.number ≡ z = ap (λ zs. get_or zs 0 (pos 0)) c.scalar.ensures in
     c.write_number.ensures
     ∙ ap (λ n. with_vector old to (vector_of to.size n)) (c.from-digits.ensures ∙ unsigned)
     ∙ ap (with_vector old to) (vector_of_bits to.size z c.if-to-le32.true fits ∙ ap (signed_vector_of to.size) (sym number))
@@ -31,7 +30,7 @@ returns-else-to-le32-clause-value c =
     let more = to.size - 32 in
     let fits : FitsSigned w32 z = search rules in
     let unsigned : c.cast_unsigned.result ≡ of_z w32 z = simp to_z-of_z at c.cast_unsigned.ensures in
-    let number : number_at old c.args.number ≡ z = ap first_number c.scalar.ensures in
+    let number : number_at old c.args.number ≡ z = ap (λ zs. get_or zs 0 (pos 0)) c.scalar.ensures in
     let sign : x ≡ leftmost (signed_vector_of 32 z) = c.sign-sign.ensures.sign ∙ ap (λ v. leftmost (signed_vector_of 32 v)) number in
     let digits : vector_of 32 c.from-digits.result ≡ signed_vector_of 32 z
     = ap (vector_of 32) (c.from-digits.ensures ∙ unsigned) ∙ vector_of_bits 32 z (omega arith) fits in

@@ -1,9 +1,9 @@
-use Rattle.std.proofs.Common.{rules, ◌≡◌, ◌-◌, ◌*◌, ◌^◌, ◌++◌, pos, ◌-ℤ◌, replicate, ap, sym, arith, subst, FitsSigned, w32}
+use Rattle.std.proofs.Common.{rules, ◌≡◌, ◌-◌, ◌*◌, ◌^◌, ◌++◌, pos, ◌-ℤ◌, replicate, ap, sym, arith, subst, FitsSigned, w32, get_or}
 use Rattle.vv_types.specs.Number.{bit, number_of, signed_vector_of}
-use Rattle.vv_vectors.specs.Vectors.{vector_at, LiesIn}
+use Rattle.vv_vectors.specs.Vectors.{number_at, vector_at, LiesIn}
 use Rattle.vv_vectors.proofs.Places.{length-vector_at}
 use Rattle.vv_num_vectors.specs.Rows.{leftmost}
-use Rattle.vv_num_vectors.specs.Operands.{IsIn, IsWorth, first_number, number_at}
+use Rattle.vv_num_vectors.specs.Operands.{IsIn, IsWorth}
 use Rattle.vv_num_vectors.proofs.Digits.{number_worth, signed_worth, unsigned_worth}
 use Rattle.vv_num_vectors.proofs.operand.Operand.sign.Goals as goal
 
@@ -35,7 +35,7 @@ returns-in-Number-clause-worth c =
     let place = c.in-Number.place in
     let z = c.scalar.result in
     let fits : FitsSigned w32 z = search rules in
-    let number : number_at cells place ≡ z = ap first_number c.scalar.ensures in
+    let number : number_at cells place ≡ z = ap (λ zs. get_or zs 0 (pos 0)) c.scalar.ensures in
     let worth = number_worth z in
     subst (λ x. IsWorth cells x) (sym c.in-Number.is)
     (λ n h. subst (λ v. v ≡ pos (number_of (replicate (n - 32) (leftmost (signed_vector_of 32 v)) ++ signed_vector_of 32 v)) -ℤ pos (bit (leftmost (signed_vector_of 32 v)) * 2 ^ n)) (sym number) (number_worth z n fits h))
