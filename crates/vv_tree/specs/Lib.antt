@@ -1,0 +1,7 @@
+pub mod Leaves
+pub mod Expressions
+pub mod Subtypes
+pub mod Statements
+pub mod Declarations
+pub mod Concurrents
+pub mod View
