@@ -11,9 +11,10 @@ moves-init c = let h = c.in_ok-state.ensures.ok in
 pub moves-preserved : goal.moves-preserved
 moves-preserved c =
     let l = rw c.in-Some.ensures at c.moves.invariant.0 in
-    let d = rw (c.in-Some.ensures, one_more most_moves c.moves.counter c.moves-test.true) at c.moves.invariant.1 in
-    (moved c.args.edition c.args.tokens.now (starting_with c.args.steps.now c.args.at) _ c.args.at (record { stack = c.pop.new.self; at = c.moves.state.at; events = c.moves.state.events }) c.advance.new.state _ l refl c.in_ok-advance.ensures.ok,
-     drives (most_moves - (c.moves.counter + 1)) c.args.edition c.args.tokens.now _ (record { stack = c.pop.new.self; at = c.moves.state.at; events = c.moves.state.events }) c.advance.new.state _ _ d refl c.in_ok-advance.ensures.ok)
+    let d = rw (c.in-Some.ensures, one_more most_moves c.moves.counter c.moves-test.true) at c.moves.invariant.1 in (
+      moved c.args.edition c.args.tokens.now (starting_with c.args.steps.now c.args.at) _ c.args.at (record { stack = c.pop.new.self; at = c.moves.state.at; events = c.moves.state.events }) c.advance.new.state _ l refl c.in_ok-advance.ensures.ok,
+      drives (most_moves - (c.moves.counter + 1)) c.args.edition c.args.tokens.now _ (record { stack = c.pop.new.self; at = c.moves.state.at; events = c.moves.state.events }) c.advance.new.state _ _ d refl c.in_ok-advance.ensures.ok,
+    )
 
 pub returns-in_err-advance-clause-halts : goal.returns-in_err-advance-clause-halts
 returns-in_err-advance-clause-halts c =
