@@ -1,7 +1,7 @@
 -- A value that is put on a stack, and a part at the end of a list.
-use Rattle.std.proofs.Common.{◌≡◌, List, [], ◌∷◌, ◌++◌, map, reverse, refl}
+use Rattle.std.proofs.Common.{◌≡◌, List, [], ◌∷◌, ◌++◌, map, refl}
 use Rattle.std.proofs.lemmas.List.{map-append, reverse-append}
-use Rattle.vv_grammar.specs.Trees.{Tree, Trees, none, more, joined}
+use Rattle.vv_grammar.specs.Trees.{none, more, joined}
 use Rattle.vv_tree.specs.View.{trees}
 use Rattle.vv_values.specs.Items.{item_tree}
 use Rattle.vv_values.specs.Stack.{newest_first, value_tree}

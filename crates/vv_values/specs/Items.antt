@@ -1,8 +1,7 @@
 -- What contracts see of the parts that were made so far.
-use Rattle.std.specs.Prelude.{List, [], ◌∷◌, map, reverse}
-use Rattle.vv_grammar.specs.Trees.{Tree, list, absent}
+use Rattle.vv_grammar.specs.Trees.{Tree}
 use Rattle.vv_vlex.specs.declared.token.TokenKind.TheVariants as kind
-use Rattle.vv_tree.specs.View.{token, literal_tree, trees_of, ident_tree, keyword_tree, expr_tree, part_tree, argument_tree, element_tree, choice_tree, range_tree, operand_tree}
+use Rattle.vv_tree.specs.View.{token, literal_tree, ident_tree, keyword_tree, expr_tree, part_tree, argument_tree, element_tree, choice_tree, range_tree, operand_tree}
 use Rattle.vv_values.specs.declared.item.Item.{Item}
 use Rattle.vv_values.specs.declared.item.Item.TheVariants as item
 

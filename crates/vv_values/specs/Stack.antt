@@ -1,5 +1,5 @@
 -- What contracts see of a stack of values: their trees, the newest first.
-use Rattle.std.specs.Prelude.{List, [], ◌∷◌, map, reverse}
+use Rattle.std.specs.Prelude.{List, map, reverse}
 use Rattle.vv_grammar.specs.Trees.{Tree, absent}
 use Rattle.vv_tree.specs.View.{trees_of}
 use Rattle.vv_values.specs.Items.{item_tree}
