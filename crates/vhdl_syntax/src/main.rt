@@ -15,6 +15,7 @@ use vv_base::shelf::{LoadFault, Shelf};
 use vv_grammar::edition::Edition;
 use vv_grammar::machine::{Stop, run};
 use vv_grammar::starts::FILE;
+use vv_grammar::terminal::terminals;
 use vv_vlex::token::Token;
 use vv_vlex::tokens::lex;
 
@@ -68,7 +69,8 @@ fn status(rt: &HostRuntime, alloc: Global, bytes: &[u8]) -> u8 {
 fn syntax(alloc: Global, bytes: &[u8]) -> Result<(), Fault> {
     let mut names = Names::new(alloc);
     let tokens = lex(alloc, 0, bytes, &mut names)?;
-    match run(alloc, Edition::Vhdl93, &FILE, tokens.as_slice(), 0) {
+    let kinds = terminals(alloc, tokens.as_slice())?;
+    match run(alloc, Edition::Vhdl93, &FILE, kinds.as_slice(), 0) {
         Ok(_) => Ok(()),
         Err(Stop::Memory) => Err(Fault::Memory),
         Err(Stop::Misplaced(token)) => Err(refused(Rule::Y1, tokens.as_slice(), token)),

@@ -1,6 +1,5 @@
 -- The grammar as a machine: what is still to come, and what becomes of it at the next token.
 use Rattle.std.specs.Prelude.{◌≡◌, ℕ, zero, suc, nat_eq, ◌+◌, ◌-◌, if◌then◌else◌, List, [], ◌∷◌, ◌++◌, map, Option, Some, None, option_map, slice_get}
-use Rattle.vv_vlex.specs.declared.token.Token.{Token}
 use Rattle.vv_grammar.specs.declared.edition.Edition.{Edition}
 use Rattle.vv_grammar.specs.declared.event.Event.{Event}
 use Rattle.vv_grammar.specs.declared.event.Event.TheVariants as event
@@ -17,12 +16,12 @@ use Rattle.vv_grammar.specs.declared.step.Step.TheVariants as step
 use Rattle.vv_grammar.specs.declared.step.Take.{Take}
 use Rattle.vv_grammar.specs.declared.step.Take.TheVariants as take
 use Rattle.vv_grammar.specs.declared.terminal.Terminal.{Terminal}
-use Rattle.vv_grammar.specs.Terminals.{kind_of, same, contains}
+use Rattle.vv_grammar.specs.Terminals.{same, contains}
 use Rattle.vv_grammar.specs.Table.{Choice, alternatives, otherwise, level_of}
 
 -- the terminal of the token with this number, if there is one
-abbrev pub next_terminal : List Token → ℕ → Option Terminal
-next_terminal ts at = option_map (λ t. kind_of t.kind) (slice_get ts at)
+abbrev pub next_terminal : List Terminal → ℕ → Option Terminal
+next_terminal ts at = slice_get ts at
 
 -- the first alternative that has the terminal
 pub record Turn : Type 0 where
@@ -120,7 +119,7 @@ move_of e t (step.Keep w) o at K = token event.Keep w t at K
 move_of e t (step.Make f) o at K = goes (event.Make f ∷ []) K at
 
 -- One move: what the first of those that are still to come makes of the state at a token.
-abbrev pub move : Edition → List Token → List Pending → ℕ → Move
+abbrev pub move : Edition → List Terminal → List Pending → ℕ → Move
 move e ts [] at = over
 move e ts (o ∷ K) at = move_of e (next_terminal ts at) o.step o at K
 
@@ -142,20 +141,20 @@ going on es at (deep n) = too_deep n
 going on es at over = reads es at
 
 -- by so many moves at most, when these events have happened
-unfoldable pub drive : ℕ → Edition → List Token → List Pending → ℕ → List Event → Outcome
+unfoldable pub drive : ℕ → Edition → List Terminal → List Pending → ℕ → List Event → Outcome
 drive zero e ts K at es = unfinished
 drive (suc n) e ts K at es = going (λ L b fs. drive n e ts L b fs) es at (move e ts K at)
 
 abbrev pub most_moves : ℕ
 most_moves = 18446744073709551615
 
-abbrev pub outcome : Edition → List Token → List Pending → ℕ → Outcome
+abbrev pub outcome : Edition → List Terminal → List Pending → ℕ → Outcome
 outcome e ts K at = drive most_moves e ts K at []
 
 -- From one state the machine comes to another, and these events happen.
-pub data Leads : Edition → List Token → List Pending → ℕ → List Event → List Pending → ℕ → Type 0 where
-  here : (e : Edition) (ts : List Token) (K : List Pending) (at : ℕ) → Leads e ts K at [] K at
-  further : (e : Edition) (ts : List Token) (K L M : List Pending) (a b c : ℕ) (es fs : List Event)
+pub data Leads : Edition → List Terminal → List Pending → ℕ → List Event → List Pending → ℕ → Type 0 where
+  here : (e : Edition) (ts : List Terminal) (K : List Pending) (at : ℕ) → Leads e ts K at [] K at
+  further : (e : Edition) (ts : List Terminal) (K L M : List Pending) (a b c : ℕ) (es fs : List Event)
       → Leads e ts K a es L b → move e ts L b ≡ goes fs M c → Leads e ts K a (es ++ fs) M c
 
 -- how deep expressions and statements may nest
@@ -180,14 +179,14 @@ IsStop (stop.Misplaced n) at m = (m ≡ stuck) × (n ≡ at)
 IsStop (stop.Deep n) at m = m ≡ deep n
 
 -- From a state the machine comes to one where its move stops.
-pub record Halts (e : Edition) (ts : List Token) (K : List Pending) (at : ℕ) (s : Stop) : Type 0 where
+pub record Halts (e : Edition) (ts : List Terminal) (K : List Pending) (at : ℕ) (s : Stop) : Type 0 where
   pub events : List Event
   pub rest : List Pending
   pub next : ℕ
   pub leads : Leads e ts K at events rest next
   pub stops : IsStop s next (move e ts rest next)
 
-abbrev pub Stops : Edition → List Token → List Pending → ℕ → Stop → Type 0
+abbrev pub Stops : Edition → List Terminal → List Pending → ℕ → Stop → Type 0
 Stops e ts K at stop.Memory = Unit {0}
 Stops e ts K at (stop.Misplaced n) = Halts e ts K at (stop.Misplaced n)
 Stops e ts K at (stop.Deep n) = Halts e ts K at (stop.Deep n)

@@ -1,5 +1,6 @@
 -- What the grammar sees of a token.
-use Rattle.std.specs.Prelude.{Bool, true, false, nat_eq, ◌||◌, List, [], ◌∷◌}
+use Rattle.std.specs.Prelude.{Bool, true, false, nat_eq, ◌||◌, List, [], ◌∷◌, map}
+use Rattle.vv_vlex.specs.declared.token.Token.{Token}
 use Rattle.vv_vlex.specs.declared.token.TokenKind.{TokenKind}
 use Rattle.vv_vlex.specs.declared.token.TokenKind.TheVariants as kind
 use Rattle.vv_grammar.specs.declared.terminal.Terminal.{Terminal}
@@ -17,6 +18,9 @@ kind_of (kind.Str bs n) = the.Str
 kind_of (kind.BitStr bs) = the.BitStr
 kind_of (kind.Sign s) = the.Mark s
 kind_of kind.End = the.End
+
+abbrev pub terminals_of : List Token → List Terminal
+terminals_of ts = map (λ t. kind_of t.kind) ts
 
 abbrev pub same : Terminal → Terminal → Bool
 same the.Id the.Id = true

@@ -11,10 +11,9 @@ use crate::place::Place;
 use crate::rows::{alternatives, level, otherwise};
 use crate::stack::{Pending, Stack};
 use crate::step::{Alternative, Level, Step, Take, Turn};
-use crate::terminal::{Terminal, is_among, is_same, terminal_of};
+use crate::terminal::{Terminal, is_among, is_same};
 use std::alloc::{AllocError, AllocFailed, Global};
 use vv_base::fault::{Memory, cannot_come};
-use vv_vlex::token::Token;
 
 /// Why the machine stopped before all was read.
 #[derive(Clone, Copy, Debug, PartialEq, Eq)]
@@ -71,11 +70,11 @@ pub struct Reading {
 }
 
 /// The terminal of the token with this number, if there is one.
-fn next_terminal(tokens: &[Token], at: usize) -> Option<Terminal>
+fn next_terminal(tokens: &[Terminal], at: usize) -> Option<Terminal>
     ensures { result ≡ spec.next_terminal tokens.now at }
 {
     match tokens.get(at) {
-        Some(token) => Some(terminal_of(&token.kind)),
+        Some(terminal) => Some(*terminal),
         None => None,
     }
 }
@@ -95,7 +94,7 @@ fn choose(rows: &[Alternative], terminal: Terminal) -> Option<Turn>
 }
 
 /// The turn that the next token chooses at a place. Where there is one, there is a next token.
-fn chosen(edition: Edition, place: Place, tokens: &[Token], at: usize) -> Option<Turn>
+fn chosen(edition: Edition, place: Place, tokens: &[Terminal], at: usize) -> Option<Turn>
     ensures turn { option_map (λ t. spec.turn t.0 t.1.now) result ≡ spec.chosen edition place (spec.next_terminal tokens.now at) }
     ensures within { IfSome result (λ t. at < length tokens.now) }
 {
@@ -162,7 +161,7 @@ fn starting(level: Level, pending: Pending, at: usize) -> usize
 }
 
 /// Takes the next token.
-fn pass(state: &mut State, tokens: &[Token], event: Event) -> Result<(), Stop>
+fn pass(state: &mut State, tokens: &[Terminal], event: Event) -> Result<(), Stop>
     requires { state.old.at < length tokens.now }
     ensures stack { state.new.stack ≡ state.old.stack }
     ensures at { OnOk result (state.new.at ≡ state.old.at + 1) }
@@ -175,7 +174,7 @@ fn pass(state: &mut State, tokens: &[Token], event: Event) -> Result<(), Stop>
 }
 
 /// Makes a turn: its token is taken or not, and its steps are to come.
-fn take(state: &mut State, tokens: &[Token], turn: Turn, around: Pending) -> Result<(), Stop>
+fn take(state: &mut State, tokens: &[Terminal], turn: Turn, around: Pending) -> Result<(), Stop>
     requires { state.old.at < length tokens.now }
     ensures ok { OnOk result (spec.Moved state.old state.new (spec.taking turn.entry.0 state.old.at turn.entry.1.now around state.old.stack)) }
     ensures err { IfErr result (λ s. s ≡ Stop.Memory) }
@@ -202,7 +201,7 @@ fn take(state: &mut State, tokens: &[Token], turn: Turn, around: Pending) -> Res
 /// Makes a turn at a place, where it is not too deep.
 fn turn_at(
     state: &mut State,
-    tokens: &[Token],
+    tokens: &[Terminal],
     place: Place,
     turn: Turn,
     pending: Pending,
@@ -219,7 +218,7 @@ fn turn_at(
 }
 
 /// Takes the next token, which has to be this one.
-fn token(state: &mut State, tokens: &[Token], event: Event, wanted: Terminal) -> Result<(), Stop>
+fn token(state: &mut State, tokens: &[Terminal], event: Event, wanted: Terminal) -> Result<(), Stop>
     ensures ok { OnOk result (spec.Moved state.old state.new (spec.token event wanted (spec.next_terminal tokens.now state.old.at) state.old.at state.old.stack)) }
     ensures err { IfErr result (λ s. spec.IsStop s state.old.at (spec.token event wanted (spec.next_terminal tokens.now state.old.at) state.old.at state.old.stack)) }
 {
@@ -237,7 +236,7 @@ fn token(state: &mut State, tokens: &[Token], event: Event, wanted: Terminal) ->
 /// What a place admits at the next token.
 fn call(
     edition: Edition,
-    tokens: &[Token],
+    tokens: &[Terminal],
     state: &mut State,
     place: Place,
     pending: Pending,
@@ -257,7 +256,7 @@ fn call(
 /// What a place admits at the next token once more, or nothing.
 fn repeat(
     edition: Edition,
-    tokens: &[Token],
+    tokens: &[Terminal],
     state: &mut State,
     place: Place,
     pending: Pending,
@@ -283,7 +282,7 @@ fn repeat(
 /// One move.
 fn advance(
     edition: Edition,
-    tokens: &[Token],
+    tokens: &[Terminal],
     state: &mut State,
     pending: Pending,
 ) -> Result<(), Stop>
@@ -319,12 +318,12 @@ fn begin(alloc: Global, steps: &[Step], at: usize) -> Result<State, Stop>
     })
 }
 
-/// Goes through these steps from a token on, with nothing round them.
+/// Goes through these steps from a token on, with nothing round them. Of the tokens the terminals are handed in.
 pub fn run(
     alloc: Global,
     edition: Edition,
     steps: &[Step],
-    tokens: &[Token],
+    tokens: &[Terminal],
     at: usize,
 ) -> Result<Reading, Stop>
     ensures read { IfOk result (λ r. spec.Leads edition tokens.now (spec.starting_with steps.now at) at r.events.items [] r.at) }

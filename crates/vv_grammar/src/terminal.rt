@@ -1,10 +1,12 @@
 //! What the grammar sees of a token.
 
-ghost use Rattle.std.specs.Prelude.{◌≡◌, IsTrue};
-ghost use Rattle.vv_grammar.specs.Terminals.{kind_of, same, contains};
+ghost use Rattle.std.specs.Prelude.{◌≡◌, IfOk};
+ghost use Rattle.vv_grammar.specs.Terminals.{kind_of, terminals_of, same, contains};
 
+use std::alloc::Global;
+use vv_base::fault::Memory;
 use vv_vlex::sign::Sign;
-use vv_vlex::token::TokenKind;
+use vv_vlex::token::{Token, TokenKind};
 use vv_vlex::word::Word;
 
 /// A kind of tokens.
@@ -35,6 +37,17 @@ pub fn terminal_of(kind: &TokenKind) -> Terminal
         TokenKind::Sign(sign) => Terminal::Mark(*sign),
         TokenKind::End => Terminal::End,
     }
+}
+
+/// The terminals of tokens.
+pub fn terminals(alloc: Global, tokens: &[Token]) -> Result<Vec<Terminal>, Memory>
+    ensures { IfOk result (λ all. all.items ≡ terminals_of tokens.now) }
+{
+    let mut all = Vec::new(alloc);
+    for token in tokens {
+        all.push(terminal_of(&token.kind))?;
+    }
+    Ok(all)
 }
 
 /// Whether these are one terminal.

@@ -1,8 +1,6 @@
 -- The machine and the one without levels make the same steps.
 use Rattle.std.proofs.Common.{◌≡◌, ℕ, zero, suc, ◌+◌, Bool, true, false, if◌then◌else◌, List, [], ◌∷◌, ◌++◌, length, drop, Option, Some, None, slice_get, refl, sym, ap, ◌∙◌, subst, append_assoc, arith}
 use Rattle.std.proofs.lemmas.List.{length-append}
-use Rattle.std.proofs.lemmas.Option.{slice_get-map}
-use Rattle.vv_vlex.specs.declared.token.Token.{Token}
 use Rattle.vv_grammar.specs.declared.edition.Edition.{Edition}
 use Rattle.vv_grammar.specs.declared.event.Event.{Event}
 use Rattle.vv_grammar.specs.declared.event.Event.TheVariants as event
@@ -14,12 +12,12 @@ use Rattle.vv_grammar.specs.declared.step.Step.TheVariants as step
 use Rattle.vv_grammar.specs.declared.step.Take.{Take}
 use Rattle.vv_grammar.specs.declared.step.Take.TheVariants as take
 use Rattle.vv_grammar.specs.declared.terminal.Terminal.{Terminal}
-use Rattle.vv_grammar.specs.Terminals.{kind_of, same}
+use Rattle.vv_grammar.specs.Terminals.{same}
 use Rattle.vv_grammar.specs.Table.{otherwise, level_of}
 use Rattle.vv_grammar.specs.Machine as machine
 use Rattle.vv_grammar.specs.Machine.{Turn, turn, chosen, next_terminal, inside, starting, as_step, begun, steps_in, Leads, here, further}
 use Rattle.vv_grammar_laws.specs.Derivations.{noted}
-use Rattle.vv_grammar_laws.specs.Starts.{terminals, AreBetween}
+use Rattle.vv_grammar_laws.specs.Starts.{AreBetween}
 use Rattle.vv_grammar_laws.proofs.Plain as plain
 use Rattle.vv_grammar_laws.proofs.Plain.{Act, act_of, act, head, behind}
 use Rattle.vv_grammar_laws.proofs.Acts.{Acts, as_acts, HasHead, made, skipped, kept, chose, passed, stopped, again}
@@ -88,7 +86,7 @@ step-agrees e t (step.Skip w) o at K h = token-agrees event.Skip w t at K
 step-agrees e t (step.Keep w) o at K h = token-agrees event.Keep w t at K
 step-agrees e t (step.Make f) o at K h = (false, refl, refl)
 
-pub agrees : (e : Edition) (ts : List Token) (K : List Pending) (at : ℕ) → Agrees (machine.move e ts K at) (act e (bare K) (next_terminal ts at)) at
+pub agrees : (e : Edition) (ts : List Terminal) (K : List Pending) (at : ℕ) → Agrees (machine.move e ts K at) (act e (bare K) (next_terminal ts at)) at
 agrees e ts [] at = refl
 agrees e ts (o ∷ K) at = step-agrees e (next_terminal ts at) o.step o at K refl
 
@@ -98,8 +96,8 @@ head-drop [] (suc a) = refl
 head-drop (x ∷ xs) zero = refl
 head-drop (x ∷ xs) (suc a) = head-drop xs a
 
-pub head-from : (ts : List Token) (a : ℕ) → head (drop a (terminals ts)) ≡ next_terminal ts a
-head-from ts a = head-drop (terminals ts) a ∙ slice_get-map (λ (t : Token). kind_of t.kind) ts a
+pub head-from : (ts : List Terminal) (a : ℕ) → head (drop a ts) ≡ next_terminal ts a
+head-from ts a = head-drop ts a
 
 drop-next : (xs ys : List Terminal) (x : Terminal) (a : ℕ) → drop a xs ≡ x ∷ ys → ys ≡ drop (a + 1) xs
 drop-next [] ys x zero h = absurd (subst (λ (z : List Terminal). HasHead (head z)) (sym h) tt)
@@ -121,22 +119,22 @@ needs-head e _ _ _ _ _ (stopped p K h) x = absurd x
 needs-head e _ _ _ _ _ (again p c t K a y) x = tt
 
 -- The machine's way is a way of the one without levels.
-pub record IsWay (e : Edition) (ts : List Token) (K : List Pending) (a : ℕ) (es : List Event) (L : List Pending) (b : ℕ) : Type 0 where
+pub record IsWay (e : Edition) (ts : List Terminal) (K : List Pending) (a : ℕ) (es : List Event) (L : List Pending) (b : ℕ) : Type 0 where
   pub tokens : List Terminal
   pub between : AreBetween ts a b tokens
-  pub path : Path e (bare L) (drop b (terminals ts)) (bare K) tokens es
+  pub path : Path e (bare L) (drop b ts) (bare K) tokens es
 
-onward : (e : Edition) (ts : List Token) (K L M : List Pending) (a b c : ℕ) (es fs : List Event) (w : IsWay e ts K a es L b)
+onward : (e : Edition) (ts : List Terminal) (K L M : List Pending) (a b c : ℕ) (es fs : List Event) (w : IsWay e ts K a es L b)
     → (k : Bool) → act e (bare L) (next_terminal ts b) ≡ plain.goes fs (bare M) k → c ≡ past k b → IsWay e ts K a (es ++ fs) M c
 onward e ts K L M a b c es fs w false m s =
-    let p = then-looks e (bare L) (bare M) (drop b (terminals ts)) fs (ap (act e (bare L)) (head-from ts b) ∙ m) (bare K) w.tokens es w.path in
+    let p = then-looks e (bare L) (bare M) (drop b ts) fs (ap (act e (bare L)) (head-from ts b) ∙ m) (bare K) w.tokens es w.path in
     subst (IsWay e ts K a (es ++ fs) M) (sym s) (record { tokens = w.tokens; between = w.between; path = p })
-onward e ts K L M a b c es fs w true m s = go (drop b (terminals ts)) refl
+onward e ts K L M a b c es fs w true m s = go (drop b ts) refl
   where
-    go : (rest : List Terminal) → drop b (terminals ts) ≡ rest → IsWay e ts K a (es ++ fs) M c
+    go : (rest : List Terminal) → drop b ts ≡ rest → IsWay e ts K a (es ++ fs) M c
     go [] h = absurd (subst HasHead (sym (head-from ts b) ∙ ap head h) (needs-head e (bare L) (bare M) (next_terminal ts b) fs true (as_acts e (bare L) (next_terminal ts b) fs (bare M) true m) tt))
     go (t ∷ rest) h =
-        let r : rest ≡ drop c (terminals ts) = drop-next (terminals ts) rest t b h ∙ ap (λ (i : ℕ). drop i (terminals ts)) (sym s) in
+        let r : rest ≡ drop c ts = drop-next ts rest t b h ∙ ap (λ (i : ℕ). drop i ts) (sym s) in
         let n : act e (bare L) (Some t) ≡ plain.goes fs (bare M) true = ap (act e (bare L)) (sym (ap head h) ∙ head-from ts b) ∙ m in
         let p = then-takes e (bare L) (bare M) t rest fs n (bare K) w.tokens es (subst (λ (x : List Terminal). Path e (bare L) x (bare K) w.tokens es) h w.path) in
         let size : length (w.tokens ++ (t ∷ [])) ≡ length w.tokens + 1 = length-append w.tokens (t ∷ []) in
@@ -144,19 +142,19 @@ onward e ts K L M a b c es fs w true m s = go (drop b (terminals ts)) refl
         record {
           tokens = w.tokens ++ (t ∷ []);
           between = record {
-            split = w.between.split ∙ ap (λ (x : List Terminal). w.tokens ++ x) (h ∙ ap (λ (x : List Terminal). t ∷ x) r) ∙ sym (append_assoc w.tokens (t ∷ []) (drop c (terminals ts)));
+            split = w.between.split ∙ ap (λ (x : List Terminal). w.tokens ++ x) (h ∙ ap (λ (x : List Terminal). t ∷ x) r) ∙ sym (append_assoc w.tokens (t ∷ []) (drop c ts));
             size = omega (arith, s, size, was);
           };
           path = subst (λ (x : List Terminal). Path e (bare M) x (bare K) (w.tokens ++ (t ∷ [])) (es ++ fs)) r p;
         }
 
-moved : (e : Edition) (ts : List Token) (K L M : List Pending) (a b c : ℕ) (es fs : List Event) (w : IsWay e ts K a es L b)
+moved : (e : Edition) (ts : List Terminal) (K L M : List Pending) (a b c : ℕ) (es fs : List Event) (w : IsWay e ts K a es L b)
     → machine.move e ts L b ≡ machine.goes fs M c → IsWay e ts K a (es ++ fs) M c
 moved e ts K L M a b c es fs w m =
     let g : Agrees (machine.goes fs M c) (act e (bare L) (next_terminal ts b)) b = subst (λ (x : machine.Move). Agrees x (act e (bare L) (next_terminal ts b)) b) m (agrees e ts L b) in
     onward e ts K L M a b c es fs w g.0 g.1 g.2
 
-pub way : (e : Edition) (ts : List Token) (K : List Pending) (a : ℕ) (es : List Event) (L : List Pending) (b : ℕ) → Leads e ts K a es L b → IsWay e ts K a es L b
+pub way : (e : Edition) (ts : List Terminal) (K : List Pending) (a : ℕ) (es : List Event) (L : List Pending) (b : ℕ) → Leads e ts K a es L b → IsWay e ts K a es L b
 way e _ _ _ _ _ _ (here _ ts K at) = record { tokens = []; between = record { split = refl; size = omega arith }; path = path.here }
 way e _ _ _ _ _ _ (further _ ts K L M a b c es fs l m) = moved e ts K L M a b c es fs (way e ts K a es L b l) m
 

@@ -1,6 +1,5 @@
 -- Where something is too deep, the tokens up to where it starts are the start of something.
 use Rattle.std.proofs.Common.{◌≡◌, ℕ, ◌+◌, ◌≤◌, Bool, true, false, if◌then◌else◌, List, [], ◌∷◌, ◌++◌, drop, Option, Some, None, option_map, refl, subst, arith}
-use Rattle.vv_vlex.specs.declared.token.Token.{Token}
 use Rattle.vv_grammar.specs.declared.edition.Edition.{Edition}
 use Rattle.vv_grammar.specs.declared.event.Event.{Event}
 use Rattle.vv_grammar.specs.declared.event.Event.TheVariants as event
@@ -19,7 +18,7 @@ use Rattle.vv_grammar.specs.Terminals.{same}
 use Rattle.vv_grammar.specs.Table.{otherwise, level_of}
 use Rattle.vv_grammar.specs.Machine as machine
 use Rattle.vv_grammar.specs.Machine.{Turn, chosen, next_terminal, levels, fewer, with_expressions, with_statements, inside, starting, as_step, begun, steps_in, starting_with, Leads, here, further, Halts}
-use Rattle.vv_grammar_laws.specs.Starts.{Start, steps_for, terminals}
+use Rattle.vv_grammar_laws.specs.Starts.{Start, steps_for}
 use Rattle.vv_grammar_laws.specs.Readings.{IsDeep}
 use Rattle.vv_grammar_laws.proofs.Bridge.{bare}
 use Rattle.vv_grammar_laws.proofs.Ends.{start-way, viable-path}
@@ -119,15 +118,15 @@ step-fine e t (step.Skip w) o at K h k = token-fine event.Skip w t at K k
 step-fine e t (step.Keep w) o at K h k = token-fine event.Keep w t at K k
 step-fine e t (step.Make f) o at K h k = k
 
-fine : (e : Edition) (ts : List Token) (K : List Pending) (at : ℕ) → AllBegan K at → Fine (machine.move e ts K at) at
+fine : (e : Edition) (ts : List Terminal) (K : List Pending) (at : ℕ) → AllBegan K at → Fine (machine.move e ts K at) at
 fine e ts [] at k = tt
 fine e ts (o ∷ K) at k = step-fine e (next_terminal ts at) o.step o at K k.0 k.1
 
-led : (e : Edition) (ts : List Token) (K : List Pending) (a : ℕ) (es : List Event) (L : List Pending) (b : ℕ) → Leads e ts K a es L b → AllBegan K a → AllBegan L b
+led : (e : Edition) (ts : List Terminal) (K : List Pending) (a : ℕ) (es : List Event) (L : List Pending) (b : ℕ) → Leads e ts K a es L b → AllBegan K a → AllBegan L b
 led e _ _ _ _ _ _ (here _ ts K at) k = k
 led e _ _ _ _ _ _ (further _ ts K L M a b c es fs l m) k = subst (λ (x : machine.Move). Fine x b) m (fine e ts L b (led e ts K a es L b l k))
 
-pub too_deep : (e : Edition) (s : Start) (ts : List Token) (a n : ℕ) → Halts e ts (starting_with (steps_for s) a) a (stop.Deep n) → IsDeep e s ts a n
+pub too_deep : (e : Edition) (s : Start) (ts : List Terminal) (a n : ℕ) → Halts e ts (starting_with (steps_for s) a) a (stop.Deep n) → IsDeep e s ts a n
 too_deep e s ts a n h =
     let w = start-way e s ts a h.next h.events h.rest h.leads in
     let began = start-began (steps_for s) (record { step = step.Make form.Empty; expressions = levels; statements = levels; began = a }) a (omega arith) in
@@ -135,6 +134,6 @@ too_deep e s ts a n h =
       next = h.next;
       tokens = w.0;
       between = w.1;
-      viable = viable-path e (bare h.rest) (drop h.next (terminals ts)) (steps_for s) w.0 h.events w.2;
+      viable = viable-path e (bare h.rest) (drop h.next ts) (steps_for s) w.0 h.events w.2;
       by = subst (λ (x : machine.Move). Fine x h.next) h.stops (fine e ts h.rest h.next (led e ts (starting_with (steps_for s) a) a h.events h.rest h.next h.leads began));
     }

@@ -1,6 +1,5 @@
 -- What comes of a state in the end is what the machine comes to.
 use Rattle.std.proofs.Common.{◌≡◌, ℕ, zero, suc, Bool, true, false, if◌then◌else◌, List, [], ◌∷◌, ◌++◌, Option, Some, None, refl, subst}
-use Rattle.vv_vlex.specs.declared.token.Token.{Token}
 use Rattle.vv_grammar.specs.declared.edition.Edition.{Edition}
 use Rattle.vv_grammar.specs.declared.event.Event.{Event}
 use Rattle.vv_grammar.specs.declared.event.Event.TheVariants as event
@@ -49,18 +48,18 @@ many-on e (step.Skip w) t K = token-on event.Skip w t K
 many-on e (step.Keep w) t K = token-on event.Keep w t K
 many-on e (step.Make f) t K = tt
 
-over-nothing : (e : Edition) (ts : List Token) (K : List Pending) (at : ℕ) → act e (bare K) (next_terminal ts at) ≡ plain.over → K ≡ []
+over-nothing : (e : Edition) (ts : List Terminal) (K : List Pending) (at : ℕ) → act e (bare K) (next_terminal ts at) ≡ plain.over → K ≡ []
 over-nothing e ts [] at h = refl
 over-nothing e ts (o ∷ K) at h = absurd (subst IsOn h (many-on e o.step (next_terminal ts at) (bare K)))
 
 -- what an outcome says of the machine
-abbrev pub Told : Edition → List Token → List Pending → ℕ → Outcome → Type 0
+abbrev pub Told : Edition → List Terminal → List Pending → ℕ → Outcome → Type 0
 Told e ts K a (machine.reads es b) = Leads e ts K a es [] b
 Told e ts K a (machine.misplaced n) = Halts e ts K a (stop.Misplaced n)
 Told e ts K a (machine.too_deep n) = Halts e ts K a (stop.Deep n)
 Told e ts K a machine.unfinished = Unit {0}
 
-told : (e : Edition) (ts : List Token) (K0 : List Pending) (a : ℕ) (es : List Event) (K : List Pending) (at : ℕ) → Leads e ts K0 a es K at
+told : (e : Edition) (ts : List Terminal) (K0 : List Pending) (a : ℕ) (es : List Event) (K : List Pending) (at : ℕ) → Leads e ts K0 a es K at
     → (on : List Pending → ℕ → List Event → Outcome) → ((fs : List Event) (L : List Pending) (b : ℕ) → Leads e ts K0 a fs L b → Told e ts K0 a (on L b fs))
     → (m : machine.Move) → machine.move e ts K at ≡ m → Agrees m (act e (bare K) (next_terminal ts at)) at → Told e ts K0 a (machine.going on es at m)
 told e ts K0 a es K at l on h (machine.goes fs L c) i g = h (es ++ fs) L c (further e ts K0 K L a at c es fs l i)
@@ -68,22 +67,22 @@ told e ts K0 a es K at l on h machine.stuck i g = record { events = es; rest = K
 told e ts K0 a es K at l on h (machine.deep n) i g = record { events = es; rest = K; next = at; leads = l; stops = i }
 told e ts K0 a es K at l on h machine.over i g = subst (λ (x : List Pending). Leads e ts K0 a es x at) (over-nothing e ts K at g) l
 
-driven : (n : ℕ) (e : Edition) (ts : List Token) (K0 : List Pending) (a : ℕ) (es : List Event) (K : List Pending) (at : ℕ) → Leads e ts K0 a es K at
+driven : (n : ℕ) (e : Edition) (ts : List Terminal) (K0 : List Pending) (a : ℕ) (es : List Event) (K : List Pending) (at : ℕ) → Leads e ts K0 a es K at
     → Told e ts K0 a (drive n e ts K at es)
 unfolding drive
 driven zero e ts K0 a es K at l = tt
 driven (suc n) e ts K0 a es K at l =
     told e ts K0 a es K at l (λ L b fs. drive n e ts L b fs) (λ fs L b k. driven n e ts K0 a fs L b k) (machine.move e ts K at) refl (agrees e ts K at)
 
-outcome-told : (e : Edition) (ts : List Token) (K : List Pending) (a : ℕ) → Told e ts K a (outcome e ts K a)
+outcome-told : (e : Edition) (ts : List Terminal) (K : List Pending) (a : ℕ) → Told e ts K a (outcome e ts K a)
 outcome-told e ts K a = driven most_moves e ts K a [] K a (here e ts K a)
 
-pub driven_reads : (e : Edition) (s : Start) (ts : List Token) (a b : ℕ) (es : List Event) → outcome e ts (starting_with (steps_for s) a) a ≡ machine.reads es b → IsReading e s ts a b es
+pub driven_reads : (e : Edition) (s : Start) (ts : List Terminal) (a b : ℕ) (es : List Event) → outcome e ts (starting_with (steps_for s) a) a ≡ machine.reads es b → IsReading e s ts a b es
 driven_reads e s ts a b es h =
     let K = starting_with (steps_for s) a in
     reads e s ts a b es (subst (Told e ts K a) h (outcome-told e ts K a))
 
-pub driven_refuses : (e : Edition) (s : Start) (ts : List Token) (a n : ℕ) → outcome e ts (starting_with (steps_for s) a) a ≡ machine.misplaced n → IsRefusal e s ts a n
+pub driven_refuses : (e : Edition) (s : Start) (ts : List Terminal) (a n : ℕ) → outcome e ts (starting_with (steps_for s) a) a ≡ machine.misplaced n → IsRefusal e s ts a n
 driven_refuses e s ts a n h =
     let K = starting_with (steps_for s) a in
     refuses e s ts a n (subst (Told e ts K a) h (outcome-told e ts K a))

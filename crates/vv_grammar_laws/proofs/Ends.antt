@@ -1,7 +1,6 @@
 -- What the machine reads is derived and is the longest, and what it refuses is derived by nothing.
 use Rattle.std.proofs.Common.{◌≡◌, ℕ, true, false, List, [], ◌∷◌, ◌++◌, drop, Some, refl, sym, ap, ◌∙◌, subst, append_assoc}
 use Rattle.std.proofs.lemmas.List.{append-nil}
-use Rattle.vv_vlex.specs.declared.token.Token.{Token}
 use Rattle.vv_grammar.specs.declared.edition.Edition.{Edition}
 use Rattle.vv_grammar.specs.declared.event.Event.{Event}
 use Rattle.vv_grammar.specs.declared.machine.Stop.TheVariants as stop
@@ -13,7 +12,7 @@ use Rattle.vv_grammar.specs.Machine.{next_terminal, levels, starting_with, Leads
 use Rattle.vv_grammar.specs.declared.form.Form.TheVariants as form
 use Rattle.vv_grammar.specs.declared.step.Step.TheVariants as step
 use Rattle.vv_grammar_laws.specs.Derivations.{Derives, IsViable}
-use Rattle.vv_grammar_laws.specs.Starts.{Start, file, expression, name, aggregate, steps_for, terminals, AreBetween}
+use Rattle.vv_grammar_laws.specs.Starts.{Start, file, expression, name, aggregate, steps_for, AreBetween}
 use Rattle.vv_grammar_laws.specs.Readings.{IsReading, IsRefusal}
 use Rattle.vv_grammar_laws.proofs.Plain as plain
 use Rattle.vv_grammar_laws.proofs.Plain.{Act, act, head, forward, Runs}
@@ -41,17 +40,17 @@ viable-path e M v _ (_ ∷ _) _ (takes K L t q es fs m p) =
     record { more = i.more; events = es ++ i.events; derives = back e K L (Some t) es i.events true (t ∷ (q ++ i.more)) (as_acts e K (Some t) es L true m) refl i.derives }
 
 -- from a start
-abbrev pub Way : Edition → Start → List Token → ℕ → List Event → List Pending → ℕ → Type 0
-Way e s ts a es L b = (q : List Terminal) × AreBetween ts a b q × Path e (bare L) (drop b (terminals ts)) (steps_for s) q es
+abbrev pub Way : Edition → Start → List Terminal → ℕ → List Event → List Pending → ℕ → Type 0
+Way e s ts a es L b = (q : List Terminal) × AreBetween ts a b q × Path e (bare L) (drop b ts) (steps_for s) q es
 
 around : ℕ → Pending
 around a = record { step = step.Make form.Empty; expressions = levels; statements = levels; began = a }
 
-pub start-way : (e : Edition) (s : Start) (ts : List Token) (a b : ℕ) (es : List Event) (L : List Pending) → Leads e ts (starting_with (steps_for s) a) a es L b → Way e s ts a es L b
+pub start-way : (e : Edition) (s : Start) (ts : List Terminal) (a b : ℕ) (es : List Event) (L : List Pending) → Leads e ts (starting_with (steps_for s) a) a es L b → Way e s ts a es L b
 unfolding around
 start-way e s ts a b es L l =
     let w = way e ts (starting_with (steps_for s) a) a es L b l in
-    (w.tokens, w.between, subst (λ (x : List Step). Path e (bare L) (drop b (terminals ts)) x w.tokens es) (bare-start (steps_for s) (around a)) w.path)
+    (w.tokens, w.between, subst (λ (x : List Step). Path e (bare L) (drop b ts) x w.tokens es) (bare-start (steps_for s) (around a)) w.path)
 
 -- what starts with the same tokens comes by the same steps
 pub followed : (e : Edition) (s : Start) (M : List Step) (v : List Terminal) (q : List Terminal) (es : List Event) (t : Terminal) → head v ≡ Some t
@@ -64,29 +63,29 @@ abbrev pub IsNonempty : List Terminal → Type 0
 IsNonempty [] = ⊥
 IsNonempty (t ∷ u) = Unit {0}
 
-pub reads : (e : Edition) (s : Start) (ts : List Token) (a b : ℕ) (es : List Event) → Leads e ts (starting_with (steps_for s) a) a es [] b → IsReading e s ts a b es
+pub reads : (e : Edition) (s : Start) (ts : List Terminal) (a b : ℕ) (es : List Event) → Leads e ts (starting_with (steps_for s) a) a es [] b → IsReading e s ts a b es
 reads e s ts a b es l =
     let w = start-way e s ts a b es [] l in
     record {
       tokens = w.0;
       between = w.1;
-      derives = derived e (drop b (terminals ts)) (steps_for s) w.0 es w.2 (closed-start s);
+      derives = derived e (drop b ts) (steps_for s) w.0 es w.2 (closed-start s);
       longest = λ t n i.
-          let o = followed e s [] (drop b (terminals ts)) w.0 es t (head-from ts b ∙ n) w.2 i in
+          let o = followed e s [] (drop b ts) w.0 es t (head-from ts b ∙ n) w.2 i in
           subst IsNonempty (not-further e [] (t ∷ i.more) o.events refl o.runs) tt;
     }
 
-pub refuses : (e : Edition) (s : Start) (ts : List Token) (a n : ℕ) → Halts e ts (starting_with (steps_for s) a) a (stop.Misplaced n) → IsRefusal e s ts a n
+pub refuses : (e : Edition) (s : Start) (ts : List Terminal) (a n : ℕ) → Halts e ts (starting_with (steps_for s) a) a (stop.Misplaced n) → IsRefusal e s ts a n
 refuses e s ts a n h = subst (IsRefusal e s ts a) (sym h.stops.1) (record {
   tokens = w.0;
   between = w.1;
-  viable = viable-path e (bare h.rest) (drop h.next (terminals ts)) (steps_for s) w.0 h.events w.2;
+  viable = viable-path e (bare h.rest) (drop h.next ts) (steps_for s) w.0 h.events w.2;
   never = λ t k i.
-      let o = followed e s (bare h.rest) (drop h.next (terminals ts)) w.0 h.events t (head-from ts h.next ∙ k) w.2 i in
+      let o = followed e s (bare h.rest) (drop h.next ts) w.0 h.events t (head-from ts h.next ∙ k) w.2 i in
       not-stuck e (bare h.rest) (t ∷ i.more) o.events (ap (act e (bare h.rest)) (sym k) ∙ stands) o.runs;
   ends = λ fs k d.
       let r = forward e (steps_for s) w.0 fs d (good-start s) in
-      let o = follow e (bare h.rest) (drop h.next (terminals ts)) [] (head-from ts h.next ∙ k) (steps_for s) w.0 h.events fs w.2
+      let o = follow e (bare h.rest) (drop h.next ts) [] (head-from ts h.next ∙ k) (steps_for s) w.0 h.events fs w.2
       (subst (λ (x : List Terminal). Runs e (steps_for s) x fs) (sym (append-nil w.0)) r) in
       not-stuck e (bare h.rest) [] o.events (ap (act e (bare h.rest)) (sym k) ∙ stands) o.runs;
 })
@@ -98,11 +97,11 @@ refuses e s ts a n h = subst (IsRefusal e s ts a) (sym h.stops.1) (record {
     stands = subst (λ (x : machine.Move). Agrees x (act e (bare h.rest) (next_terminal ts h.next)) h.next) h.stops.0 (agrees e ts h.rest h.next)
 
 -- where all tokens from one on are derived, they are read to the last
-all-read : (e : Edition) (s : Start) (ts : List Token) (a b : ℕ) (es fs : List Event) → Derives e (steps_for s) (drop a (terminals ts)) fs
-    → IsReading e s ts a b es → drop b (terminals ts) ≡ []
-all-read e s ts a b es fs d r = go (drop b (terminals ts)) refl
+all-read : (e : Edition) (s : Start) (ts : List Terminal) (a b : ℕ) (es fs : List Event) → Derives e (steps_for s) (drop a ts) fs
+    → IsReading e s ts a b es → drop b ts ≡ []
+all-read e s ts a b es fs d r = go (drop b ts) refl
   where
-    go : (rest : List Terminal) → drop b (terminals ts) ≡ rest → drop b (terminals ts) ≡ []
+    go : (rest : List Terminal) → drop b ts ≡ rest → drop b ts ≡ []
     go [] h = h
     go (t ∷ rest) h = absurd (r.longest t (sym (head-from ts b) ∙ ap head h) (record {
       more = rest;
@@ -110,22 +109,22 @@ all-read e s ts a b es fs d r = go (drop b (terminals ts)) refl
       derives = subst (λ (x : List Terminal). Derives e (steps_for s) x fs) (r.between.split ∙ ap (λ (x : List Terminal). r.tokens ++ x) h ∙ sym (append_assoc r.tokens (t ∷ []) rest)) d;
     }))
 
-pub read_whole : (e : Edition) (s : Start) (ts : List Token) (a b : ℕ) (es fs : List Event) → Derives e (steps_for s) (drop a (terminals ts)) fs
-    → Leads e ts (starting_with (steps_for s) a) a es [] b → (es ≡ fs) × (drop b (terminals ts) ≡ [])
+pub read_whole : (e : Edition) (s : Start) (ts : List Terminal) (a b : ℕ) (es fs : List Event) → Derives e (steps_for s) (drop a ts) fs
+    → Leads e ts (starting_with (steps_for s) a) a es [] b → (es ≡ fs) × (drop b ts ≡ [])
 read_whole e s ts a b es fs d l =
     let r = reads e s ts a b es l in
     let n = all-read e s ts a b es fs d r in
-    let same : drop a (terminals ts) ≡ r.tokens = r.between.split ∙ ap (λ (x : List Terminal). r.tokens ++ x) n ∙ append-nil r.tokens in
+    let same : drop a ts ≡ r.tokens = r.between.split ∙ ap (λ (x : List Terminal). r.tokens ++ x) n ∙ append-nil r.tokens in
     (at_most_one e s r.tokens es fs r.derives (subst (λ (x : List Terminal). Derives e (steps_for s) x fs) same d), n)
 
-pub never_refused : (e : Edition) (s : Start) (ts : List Token) (a n : ℕ) (fs : List Event) → Derives e (steps_for s) (drop a (terminals ts)) fs
+pub never_refused : (e : Edition) (s : Start) (ts : List Terminal) (a n : ℕ) (fs : List Event) → Derives e (steps_for s) (drop a ts) fs
     → Halts e ts (starting_with (steps_for s) a) a (stop.Misplaced n) → ⊥
-never_refused e s ts a n fs d h = go (drop n (terminals ts)) refl
+never_refused e s ts a n fs d h = go (drop n ts) refl
   where
     r : IsRefusal e s ts a n
     r = refuses e s ts a n h
 
-    go : (rest : List Terminal) → drop n (terminals ts) ≡ rest → ⊥
+    go : (rest : List Terminal) → drop n ts ≡ rest → ⊥
     go [] k = r.ends fs (sym (head-from ts n) ∙ ap head k)
         (subst (λ (x : List Terminal). Derives e (steps_for s) x fs) (r.between.split ∙ ap (λ (x : List Terminal). r.tokens ++ x) k ∙ append-nil r.tokens) d)
     go (t ∷ rest) k = r.never t (sym (head-from ts n) ∙ ap head k) (record {

@@ -7,10 +7,10 @@ ghost use Rattle.vv_grammar.specs.declared.terminal.Terminal.{Terminal};
 ghost use Rattle.vv_grammar.specs.Machine.{Halts, Leads, misplaced, outcome, reads, starting_with};
 ghost use Rattle.vv_grammar_laws.specs.Derivations.{Derives};
 ghost use Rattle.vv_grammar_laws.specs.Readings.{IsDeep, IsReading, IsReadWhole, IsRefusal};
-ghost use Rattle.vv_grammar_laws.specs.Starts.{Start, steps_for, terminals};
+ghost use Rattle.vv_grammar_laws.specs.Starts.{Start, steps_for};
 
 use vv_grammar::edition::Edition;
-use vv_vlex::token::Token;
+use vv_grammar::terminal::Terminal;
 
 /// Tokens have at most one reading: whatever alternatives are tried, the same happens.
 pub fn readings_are_one(edition: Edition)
@@ -18,31 +18,31 @@ pub fn readings_are_one(edition: Edition)
 {}
 
 /// What the machine reads is derived, and no longer run of the tokens could be the start of anything.
-pub fn what_is_read_is_derived(edition: Edition, tokens: &[Token])
+pub fn what_is_read_is_derived(edition: Edition, tokens: &[Terminal])
     ensures { (s : Start) (at next : ℕ) (es : List Event) → Leads edition tokens.now (starting_with (steps_for s) at) at es [] next → IsReading edition s tokens.now at next es }
 {}
 
 /// The machine refuses at the first token with which what was read is the start of nothing.
-pub fn refusals_are_exact(edition: Edition, tokens: &[Token])
+pub fn refusals_are_exact(edition: Edition, tokens: &[Terminal])
     ensures { (s : Start) (at n : ℕ) → Halts edition tokens.now (starting_with (steps_for s) at) at (Misplaced n) → IsRefusal edition s tokens.now at n }
 {}
 
 /// Where something is too deep, no token before it is misplaced.
-pub fn what_is_too_deep_is_placed(edition: Edition, tokens: &[Token])
+pub fn what_is_too_deep_is_placed(edition: Edition, tokens: &[Terminal])
     ensures { (s : Start) (at n : ℕ) → Halts edition tokens.now (starting_with (steps_for s) at) at (Deep n) → IsDeep edition s tokens.now at n }
 {}
 
 /// Where all tokens from one on are derived, they are read, nothing else is read and none is refused.
-pub fn what_is_derived_is_read(edition: Edition, tokens: &[Token])
-    ensures whole { (s : Start) (at : ℕ) (es : List Event) → Derives edition (steps_for s) (drop at (terminals tokens.now)) es → IsReadWhole edition s tokens.now at es }
-    ensures read { (s : Start) (at next : ℕ) (es fs : List Event) → Derives edition (steps_for s) (drop at (terminals tokens.now)) fs
-        → Leads edition tokens.now (starting_with (steps_for s) at) at es [] next → (es ≡ fs) × (drop next (terminals tokens.now) ≡ []) }
-    ensures never { (s : Start) (at n : ℕ) (fs : List Event) → Derives edition (steps_for s) (drop at (terminals tokens.now)) fs
+pub fn what_is_derived_is_read(edition: Edition, tokens: &[Terminal])
+    ensures whole { (s : Start) (at : ℕ) (es : List Event) → Derives edition (steps_for s) (drop at tokens.now) es → IsReadWhole edition s tokens.now at es }
+    ensures read { (s : Start) (at next : ℕ) (es fs : List Event) → Derives edition (steps_for s) (drop at tokens.now) fs
+        → Leads edition tokens.now (starting_with (steps_for s) at) at es [] next → (es ≡ fs) × (drop next tokens.now ≡ []) }
+    ensures never { (s : Start) (at n : ℕ) (fs : List Event) → Derives edition (steps_for s) (drop at tokens.now) fs
         → Halts edition tokens.now (starting_with (steps_for s) at) at (Misplaced n) → ⊥ }
 {}
 
 /// The outcome of the machine is a reading or a refusal in the sense of derivations.
-pub fn outcomes_are_exact(edition: Edition, tokens: &[Token])
+pub fn outcomes_are_exact(edition: Edition, tokens: &[Terminal])
     ensures read { (s : Start) (at next : ℕ) (es : List Event) → outcome edition tokens.now (starting_with (steps_for s) at) at ≡ reads es next → IsReading edition s tokens.now at next es }
     ensures refused { (s : Start) (at n : ℕ) → outcome edition tokens.now (starting_with (steps_for s) at) at ≡ misplaced n → IsRefusal edition s tokens.now at n }
 {}

@@ -7,11 +7,10 @@ use Rattle.std.proofs.lemmas.List.Elements.{All-nil, All-cons, All-head, All-tai
 use Rattle.vv_base.specs.declared.rules.Rule.TheVariants.{Y1, Y2}
 use Rattle.vv_vlex.specs.Elements.{Element, Lexeme, finish}
 use Rattle.vv_vlex.specs.Lexical.{Broken, Elements, elements_of, placed}
-use Rattle.vv_vlex.specs.declared.token.Token.{Token}
 use Rattle.vv_vlex_laws.specs.Cut.{Piece, text_of, element_for, elements_from, IsCutOf}
 use Rattle.vv_vlex_laws.proofs.Cuts.{cut_of}
 use Rattle.vv_grammar.specs.Machine.{Outcome, reads, misplaced, too_deep, unfinished}
-use Rattle.vv_trans.specs.Parsing.{bare_tokens, offset_of, judged, judged_of, parsed, syntax}
+use Rattle.vv_trans.specs.Parsing.{terminals_of, offset_of, judged, judged_of, parsed, syntax}
 use Rattle.vv_trans.specs.Translation.{Report, syntax_report, parsing}
 use Rattle.vv_trans.proofs.Inside.{IsPlaced, placed_later}
 use Rattle.vv_trans.proofs.Phases.{same_report}
@@ -39,22 +38,22 @@ lexemes_within file ls c =
     (elements_within 0 (length file) c.pieces (omega (arith, size)))
     (All-cons (Within (length file)) (record { element = finish; at = length file; len = 0 }) [] (omega arith) (All-nil (Within (length file)))))
 
-tokens_within : (n : ℕ) (ls : List Lexeme) (k : ℕ) → All (Within n) ls → offset_of (slice_get (bare_tokens ls) k) ≤ n
-tokens_within n [] k all = omega arith
-tokens_within n (l ∷ ls) zero all = All-head (Within n) l ls all
-tokens_within n (l ∷ ls) (suc k) all = tokens_within n ls k (All-tail (Within n) l ls all)
+places_within : (n : ℕ) (ls : List Lexeme) (k : ℕ) → All (Within n) ls → offset_of (slice_get ls k) ≤ n
+places_within n [] k all = omega arith
+places_within n (l ∷ ls) zero all = All-head (Within n) l ls all
+places_within n (l ∷ ls) (suc k) all = places_within n ls k (All-tail (Within n) l ls all)
 
 some_same : (a b : Broken) → Some a ≡ Some b → a ≡ b
 some_same a b e = cc
 
-judged_within : (n : ℕ) (ts : List Token) (o : Outcome) (b : Broken) → ((k : ℕ) → offset_of (slice_get ts k) ≤ n) → judged ts o ≡ Some b → b.at ≤ n
+judged_within : (n : ℕ) (ts : List Lexeme) (o : Outcome) (b : Broken) → ((k : ℕ) → offset_of (slice_get ts k) ≤ n) → judged ts o ≡ Some b → b.at ≤ n
 judged_within n ts (reads es at) b all e = let z : None ≡ Some b = e in cc
 judged_within n ts (misplaced k) b all e = let z : record { rule = Y1; at = offset_of (slice_get ts k) } ≡ b = some_same (record { rule = Y1; at = offset_of (slice_get ts k) }) b e in subst (λ (x : Broken). x.at ≤ n) z (all k)
 judged_within n ts (too_deep k) b all e = let z : record { rule = Y2; at = offset_of (slice_get ts k) } ≡ b = some_same (record { rule = Y2; at = offset_of (slice_get ts k) }) b e in subst (λ (x : Broken). x.at ≤ n) z (all k)
 judged_within n ts unfinished b all e = let z : None ≡ Some b = e in cc
 
 by_elements : (file : List ℕ) (o : Elements) (b : Broken) → elements_of file ≡ o → judged_of o ≡ Some b → b.at ≤ length file
-by_elements file (Ok ls) b is e = judged_within (length file) (bare_tokens ls) (parsed (bare_tokens ls)) b (λ k. tokens_within (length file) ls k (lexemes_within file ls (cut_of file ls is))) e
+by_elements file (Ok ls) b is e = judged_within (length file) ls (parsed (terminals_of ls)) b (λ k. places_within (length file) ls k (lexemes_within file ls (cut_of file ls is))) e
 by_elements file (Err x) b is e = let z : None ≡ Some b = e in cc
 
 syntax_inside : (file : List ℕ) (b : Broken) → syntax file ≡ Some b → b.at ≤ length file

@@ -14,13 +14,13 @@ ghost use Rattle.vv_gate_text.specs.Names.{mangled};
 ghost use Rattle.vv_gate_text.specs.Text.{text_of};
 ghost use Rattle.vv_trans.specs.Parsing as spec;
 ghost use Rattle.vv_trans.specs.Parsing.{judged, offset_of, parsed, syntax};
-ghost use Rattle.vv_vlex.specs.Elements.{lexeme_of};
+ghost use Rattle.vv_vlex.specs.Elements.{element_of, lexeme_of};
 ghost use Rattle.vv_trans.specs.Translation.{bytes_of, folded, gate_report, lexing, parsing, reading_of, report, told, written, written_of, ForRefused, IsTranslation, Stands, Report, IsReport};
 ghost use Rattle.vv_vast.specs.Flat.{Flat, FlatDesign};
 ghost use Rattle.vv_vast.specs.Grammar.{VerilogText};
 
 use std::alloc::Global;
-use vv_base::fault::{Fault, Memory, Name, Refusal, Rule, Span};
+use vv_base::fault::{Fault, Memory, Refusal, Rule, Span};
 use vv_base::text::ByteList;
 use vv_gate::tree::GateFile;
 use vv_gate_check::first_broken;
@@ -30,9 +30,9 @@ use vv_gate_text::text::text;
 use vv_grammar::edition::Edition;
 use vv_grammar::machine::{Stop, run};
 use vv_grammar::starts::FILE;
+use vv_grammar::terminal::Terminal;
 use vv_vlex::element::{Element, Lexeme};
 use vv_vlex::lexer::elements;
-use vv_vlex::token::{Token, TokenKind, TokenList};
 
 /// The Verilog text and the map of names.
 #[derive(Drop)]
@@ -70,17 +70,44 @@ fn lex_files(alloc: Global, files: &[&[u8]]) -> Result<(), Fault>
     Ok(())
 }
 
-/// A refusal at a token.
-fn at_token(rule: Rule, number: u32, tokens: &[Token], token: usize) -> Fault
+/// What the grammar sees of an element.
+fn terminal_of(element: Element<'_>) -> Terminal
+    ensures { result ≡ spec.terminal_of (element_of element.entry) }
+{
+    match element {
+        Element::Id(_) => Terminal::Id,
+        Element::Word(word) => Terminal::Key(word),
+        Element::Int(_) => Terminal::Int,
+        Element::Char(_) => Terminal::Char,
+        Element::Str { .. } => Terminal::Str,
+        Element::BitStr(_) => Terminal::BitStr,
+        Element::Sign(sign) => Terminal::Mark(sign),
+        Element::End => Terminal::End,
+    }
+}
+
+/// What the grammar sees of the elements of a file.
+fn terminals_of(alloc: Global, elements: &[Lexeme<'_>]) -> Result<Vec<Terminal>, Memory>
+    ensures { IfOk result (λ all. all.items ≡ spec.terminals_of (map lexeme_of elements.now)) }
+{
+    let mut all = Vec::new(alloc);
+    for lexeme in elements {
+        all.push(terminal_of(lexeme.element))?;
+    }
+    Ok(all)
+}
+
+/// A refusal at an element.
+fn at_element(rule: Rule, number: u32, elements: &[Lexeme<'_>], element: usize) -> Fault
     ensures rule { ForRefused result (λ r. r.rule ≡ rule) }
-    ensures at { ForRefused result (λ r. r.span.at ≡ offset_of (slice_get tokens.now token)) }
+    ensures at { ForRefused result (λ r. r.span.at ≡ offset_of (slice_get (map lexeme_of elements.now) element)) }
     ensures file { ForRefused result (λ r. r.span.file ≡ number) }
 {
-    let span = match tokens.get(token) {
-        Some(token) => Span {
+    let span = match elements.get(element) {
+        Some(lexeme) => Span {
             file: number,
-            at: token.span.at,
-            len: token.span.len,
+            at: lexeme.at,
+            len: lexeme.len,
         },
         None => Span {
             file: number,
@@ -91,57 +118,23 @@ fn at_token(rule: Rule, number: u32, tokens: &[Token], token: usize) -> Fault
     Fault::Refused(Refusal { rule, span })
 }
 
-/// The syntax of the tokens of a file.
-fn judge(alloc: Global, number: u32, tokens: &[Token]) -> Result<(), Fault>
-    ensures passed { OnOk result (judged tokens.now (parsed tokens.now) ≡ None) }
-    ensures refused { IfErr result (λ fault. ForRefused fault (λ r. judged tokens.now (parsed tokens.now) ≡ Some (record { rule = r.rule; at = r.span.at }))) }
+/// The syntax of the elements of a file.
+fn judge(
+    alloc: Global,
+    number: u32,
+    elements: &[Lexeme<'_>],
+    terminals: &[Terminal],
+) -> Result<(), Fault>
+    ensures passed { OnOk result (judged (map lexeme_of elements.now) (parsed terminals.now) ≡ None) }
+    ensures refused { IfErr result (λ fault. ForRefused fault (λ r. judged (map lexeme_of elements.now) (parsed terminals.now) ≡ Some (record { rule = r.rule; at = r.span.at }))) }
     ensures file { IfErr result (λ fault. ForRefused fault (λ r. r.span.file ≡ number)) }
 {
-    match run(alloc, Edition::Vhdl93, &FILE, tokens, 0) {
+    match run(alloc, Edition::Vhdl93, &FILE, terminals, 0) {
         Ok(_) => Ok(()),
         Err(Stop::Memory) => Err(Fault::Memory),
-        Err(Stop::Misplaced(token)) => Err(at_token(Rule::Y1, number, tokens, token)),
-        Err(Stop::Deep(token)) => Err(at_token(Rule::Y2, number, tokens, token)),
+        Err(Stop::Misplaced(element)) => Err(at_element(Rule::Y1, number, elements, element)),
+        Err(Stop::Deep(element)) => Err(at_element(Rule::Y2, number, elements, element)),
     }
-}
-
-/// What the grammar sees of an element.
-fn bare_token(alloc: Global, lexeme: &Lexeme<'_>) -> Token
-    ensures { result ≡ spec.bare_token (lexeme_of lexeme.now) }
-{
-    let kind = match lexeme.element {
-        Element::Id(_) => TokenKind::Id(Name(0)),
-        Element::Word(word) => TokenKind::Word(word),
-        Element::Int(_) => TokenKind::Int(0),
-        Element::Char(byte) => TokenKind::Char {
-            byte,
-            name: Name(0),
-        },
-        Element::Str { .. } => TokenKind::Str {
-            bytes: ByteList::new(alloc),
-            name: Name(0),
-        },
-        Element::BitStr(_) => TokenKind::BitStr(ByteList::new(alloc)),
-        Element::Sign(sign) => TokenKind::Sign(sign),
-        Element::End => TokenKind::End,
-    };
-    let span = Span {
-        file: 0,
-        at: lexeme.at,
-        len: lexeme.len,
-    };
-    Token { kind, span }
-}
-
-/// What the grammar sees of the elements of a file.
-fn bare_tokens(alloc: Global, elements: &[Lexeme<'_>]) -> Result<TokenList, Memory>
-    ensures { IfOk result (λ tokens. tokens ≡ spec.bare_tokens (map lexeme_of elements.now)) }
-{
-    let mut tokens = TokenList::new(alloc);
-    for lexeme in elements {
-        tokens.push(bare_token(alloc, lexeme))?;
-    }
-    Ok(tokens)
 }
 
 /// The syntax of a file whose elements are sound.
@@ -152,8 +145,8 @@ fn parse_file(alloc: Global, number: u32, file: &[u8]) -> Result<(), Fault>
     ensures file { IfErr result (λ fault. ForRefused fault (λ r. r.span.file ≡ number)) }
 {
     match elements(alloc, number, file) {
-        Ok(found) => match bare_tokens(alloc, found.as_slice()) {
-            Ok(tokens) => judge(alloc, number, tokens.as_slice()),
+        Ok(found) => match terminals_of(alloc, found.as_slice()) {
+            Ok(terminals) => judge(alloc, number, found.as_slice(), terminals.as_slice()),
             Err(_) => Err(Fault::Memory),
         },
         // The phase before this one has told it.
@@ -162,7 +155,7 @@ fn parse_file(alloc: Global, number: u32, file: &[u8]) -> Result<(), Fault>
     }
 }
 
-/// The syntax of each file, in order. No later phase uses the tokens, so they are not kept.
+/// The syntax of each file, in order. No later phase uses the reading, so it is not kept.
 fn parse_files(alloc: Global, files: &[&[u8]]) -> Result<(), Fault>
     requires { length files.now ≤ 255 }
     ensures parsed { OnOk result (parsing 0 (bytes_of files.now) ≡ None) }

@@ -1,6 +1,6 @@
-use Rattle.std.proofs.Common.{rules, ◌≡◌, ◌∷◌, ◌-◌, ◌+◌, suc, refl, sym, subst, List, ℕ}
+use Rattle.std.proofs.Common.{◌-◌, ◌+◌, refl}
 use Rattle.std.proofs.lemmas.Result.{err_from_is_err_and}
-use Rattle.vv_grammar.specs.Machine.{Leads, here, starting_with, Stops, drive, outcome, most_moves}
+use Rattle.vv_grammar.specs.Machine.{here, starting_with, most_moves}
 use Rattle.vv_grammar.proofs.Leading.{moved, stopped, drives, halted, over_reads, one_more}
 use Rattle.vv_grammar.proofs.machine.run.Goals as goal
 
