@@ -75,7 +75,7 @@ fn refuses_files(rt: HostRuntime) -> Result<(), Fail> {
     let other_top = gate(alloc, "y <= a;")?;
     for (top, file, line) in [
         ("gate", b"".as_slice(), "e.vhd:1:1: Y1\n"),
-        ("gate", b"library iee;\n".as_slice(), "e.vhd:1:9: Y1\n"),
+        ("gate", b"library iee;\n".as_slice(), "e.vhd:2:1: Y1\n"),
         ("gate", b"library ieee;".as_slice(), "e.vhd:1:14: Y1\n"),
         ("gate", b"library\n\nieee;\n".as_slice(), "e.vhd:4:1: Y1\n"),
         ("gate", too_long.as_slice(), "e.vhd:1:1: L1\n"),
