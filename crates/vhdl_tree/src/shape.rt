@@ -15,8 +15,6 @@ pub enum Shape {
     One,
     /// They stay as they are.
     Same,
-    /// Identifiers and further parts become a name.
-    MarkName,
     /// A unit gets an empty list of contexts.
     Bare,
     /// So many become the parts of a node.
@@ -48,15 +46,14 @@ pub fn shape_of(form: Form) -> Shape {
         | Form::Component
         | Form::Given
         | Form::PositionalAssociation => Shape::Same,
-        Form::MarkName => Shape::MarkName,
         Form::Bare => Shape::Bare,
-        Form::Mark
-        | Form::IndexConstraint
+        Form::IndexConstraint
         | Form::RangeConstraint
         | Form::Unbounded
         | Form::FunctionDeclaration
         | Form::Listed => Shape::Parts(1),
         Form::Name
+        | Form::Mark
         | Form::Named
         | Form::BoundElement
         | Form::Power

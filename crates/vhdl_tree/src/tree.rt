@@ -92,7 +92,6 @@ impl Tree {
                 let parts = self.take(alloc, 1)?;
                 self.add(Label::List, parts)
             }
-            Shape::MarkName => self.mark_name(alloc),
             Shape::Bare => self.bare(alloc),
             Shape::Parts(count) => {
                 let parts = self.take(alloc, count)?;
@@ -119,23 +118,6 @@ impl Tree {
             node.parts.push(part)?;
         }
         Ok(())
-    }
-
-    /// Identifiers and further parts become a name.
-    fn mark_name(&mut self, alloc: Global) -> Result<(), AllocError> {
-        let further = self.take_list(alloc)?;
-        let identifiers = self.take_list(alloc)?;
-        let mut parts = Vec::new(alloc);
-        for identifier in identifiers.as_slice().iter().skip(1) {
-            parts.push(*identifier)?;
-        }
-        parts.extend_from_slice(further.as_slice())?;
-        if let Some(first) = identifiers.first() {
-            self.open.push(*first)?;
-        }
-        self.add(Label::List, parts)?;
-        let parts = self.take(alloc, 2)?;
-        self.add(Label::Form(Form::Name), parts)
     }
 
     /// A unit without context clauses is one with an empty list of them.

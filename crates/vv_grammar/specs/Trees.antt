@@ -50,7 +50,6 @@ pub data Shape : Type 0 where
   one_shape : Shape
   -- the value stays as it is
   same_shape : Shape
-  mark_name_shape : Shape
   bare_shape : Shape
   -- a node of so many parts
   parts : ℕ → Shape
@@ -63,7 +62,6 @@ shape_of form.Empty = empty_shape
 shape_of form.Add = add_shape
 shape_of form.One = one_shape
 shape_of form.Name = parts 2
-shape_of form.MarkName = mark_name_shape
 shape_of form.SelectedPart = same_shape
 shape_of form.Arguments = opened 1
 shape_of form.Attribute = opened 1
@@ -90,7 +88,7 @@ shape_of form.Sum = parts 2
 shape_of form.Shift = parts 3
 shape_of form.Relation = parts 3
 shape_of form.Logic = parts 2
-shape_of form.Mark = parts 1
+shape_of form.Mark = parts 2
 shape_of form.Discrete = same_shape
 shape_of form.MarkRange = parts 2
 shape_of form.IndexConstraint = parts 1
@@ -177,11 +175,6 @@ opened_of zero f last ts V = opened_node f last ts V
 opened_of (suc n) f last ts [] = []
 opened_of (suc n) f last ts (t ∷ V) = opened_of n f last (more t ts) V
 
--- the name of which identifiers and further parts were read
-abbrev pub named : Trees → Trees → Span → Tree
-named none ps last = absent
-named (more i is) ps last = node form.Name (more i (more (list (joined is ps)) none)) (up_to last (start i last.at))
-
 abbrev pub by_shape : Shape → Form → Span → List Tree → List Tree
 by_shape absent_shape f last V = absent ∷ V
 by_shape empty_shape f last V = list none ∷ V
@@ -190,8 +183,6 @@ by_shape add_shape f last V = V
 by_shape one_shape f last (t ∷ V) = list (more t none) ∷ V
 by_shape one_shape f last [] = []
 by_shape same_shape f last V = V
-by_shape mark_name_shape f last (list ps ∷ list is ∷ V) = named is ps last ∷ V
-by_shape mark_name_shape f last V = V
 by_shape bare_shape f last (t ∷ V) = node form.Unit (more (list none) (more t none)) (up_to last (start t last.at)) ∷ V
 by_shape bare_shape f last [] = []
 by_shape (parts n) f last V = node_of n f last none V

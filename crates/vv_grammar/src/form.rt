@@ -14,8 +14,6 @@ pub enum Form {
     One,
     /// A name. Of: identifier, name parts.
     Name,
-    /// A name whose first parts were read as identifiers with dots between them. Of: identifiers, name parts.
-    MarkName,
     /// A part of a name behind a dot. Of: identifier.
     SelectedPart,
     /// The arguments of a name: indexes, a slice, or those of a call. Of: parenthesis, arguments.
@@ -68,7 +66,7 @@ pub enum Form {
     Relation,
     /// Relations that a logical operator joins. Of: expression, operands.
     Logic,
-    /// A type mark, or the mark of a unit. Of: identifiers.
+    /// A type mark, or the mark of a unit. Of: identifier, identifiers.
     Mark,
     /// A discrete range by its bounds. Of: range.
     Discrete,

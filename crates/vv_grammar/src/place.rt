@@ -33,6 +33,8 @@ pub enum Place {
     Primary,
     /// The parts of a name behind its first identifier.
     NameParts,
+    /// The parts of a name behind what could be a mark: none of its own begins with a dot.
+    NamePartsBehindMark,
     /// What stands behind a tick: an attribute, or the operand of a qualified expression.
     BehindTick,
     /// An argument, or the formal name that stands before one.
@@ -60,7 +62,7 @@ pub enum Place {
     RangeEnd,
     /// A range by its bounds, or by a subtype with or without a range.
     DiscreteRange,
-    /// Identifiers with dots between them were read.
+    /// A name was read as far as it can be a mark.
     DiscreteRangeBehindMark,
     MarkParts,
     MoreIdents,
@@ -105,7 +107,7 @@ pub enum Place {
     MoreEnumerationLiterals,
     /// The index of an array type.
     ArrayIndex,
-    /// Identifiers with dots between them were read.
+    /// A name was read as far as it can be a mark.
     ArrayIndexBehindMark,
     ArrayIndexBehindRange,
     BehindAttribute,
@@ -129,7 +131,7 @@ pub enum Place {
     Concurrent,
     ConcurrentBehindIdent,
     LabelledConcurrent,
-    /// Behind a label, identifiers with dots between them were read: a component or a target.
+    /// Behind a label, a name was read as far as it can be a mark: a component or a target.
     ConcurrentBehindMark,
     /// Behind a value of a conditional assignment.
     BehindWaveform,

@@ -4,4 +4,5 @@ pub mod concurrent;
 pub mod declarations;
 pub mod expressions;
 pub mod statements;
+pub mod subtypes;
 pub mod units;

@@ -15,7 +15,7 @@ use Rattle.vv_grammar.specs.declared.terminal.Terminal.{Terminal}
 use Rattle.vv_grammar.specs.Terminals.{same, contains}
 use Rattle.vv_grammar.specs.Table.{Choice, alternatives, otherwise}
 use Rattle.vv_grammar.specs.Machine.{Turn, turn, choose, chosen}
-use Rattle.vv_grammar_laws.specs.Derivations.{IsAmong, first as here, later, left, noted, Derives, make, skip, keep, call, pass, stop, more, is_greedy, has_turn, may_pass}
+use Rattle.vv_grammar_laws.specs.Derivations.{IsAmong, first as here, later, left, noted, Derives, make, skip, keep, call, pass, stop, more}
 use Rattle.vv_grammar_laws.proofs.Plain.{Act, goes, stuck, over, takes, turned, called, repeated, act, head, behind}
 
 pub data Acts (e : Edition) : List Step → Option Terminal → List Event → List Step → Bool → Type 0 where
@@ -105,28 +105,6 @@ acted e (step.Keep w ∷ K) (Some t) = go (same w t) refl
 pub as_acts : (e : Edition) (K : List Step) (h : Option Terminal) (es : List Event) (L : List Step) (b : Bool) → act e K h ≡ goes es L b → Acts e K h es L b
 as_acts e K h es L b m = subst (Did e K h) m (acted e K h)
 
--- where nothing is chosen, no alternative has the next token
-not-turned : (cs : List Choice) (t : Terminal) (u : List Terminal) → choose cs t ≡ None → has_turn cs (t ∷ u) ≡ false
-not-turned [] t u h = refl
-not-turned (c ∷ cs) t u h = go (contains c.on t) h (not-turned cs t u)
-  where
-    IsNone : Option Turn → Type 0
-    IsNone None = Unit {0}
-    IsNone (Some r) = ⊥
-
-    go : (b : Bool) → (if b then Some (turn c.take c.steps) else choose cs t) ≡ None → (choose cs t ≡ None → has_turn cs (t ∷ u) ≡ false) → (b || has_turn cs (t ∷ u)) ≡ false
-    go true h k = absurd (subst (λ (x : Option Turn). IsNone x) (sym h) tt)
-    go false h k = k h
-
-pub or-not : (g b : Bool) → b ≡ false → (not g || not b) ≡ true
-or-not true true h = absurd (true≢false h)
-or-not true false h = refl
-or-not false b h = refl
-
-pub may : (e : Edition) (p : Place) (v : List Terminal) → chosen e p (head v) ≡ None → may_pass e p v ≡ true
-may e p [] h = or-not (is_greedy p) false refl
-may e p (t ∷ u) h = or-not (is_greedy p) (has_turn (alternatives e p) (t ∷ u)) (not-turned (alternatives e p) t u h)
-
 abbrev pub the_one : Terminal → Option Terminal → Terminal
 the_one d None = d
 the_one d (Some t) = t
@@ -151,7 +129,7 @@ back e _ _ _ _ fs _ (x ∷ v) (kept w t K y) s d = keep w x K v fs (subst (λ (z
 back e _ _ _ _ fs _ [] (chose p c t K a y) s d = absurd (subst HasHead s tt)
 back e _ _ _ _ fs _ (x ∷ v) (chose p c t K a y) s d =
     call p c x K v fs a (subst (λ (z : Terminal). contains c.on z ≡ true) (ap (the_one t) s) y) (subst (λ (z : List Terminal). Derives e (c.steps ++ K) z fs) (behind-left c.take x v) d)
-back e _ _ _ _ fs _ v (passed p ss K h o n) s d = pass p ss K v fs o (may e p v (ap (chosen e p) (sym s) ∙ n)) d
+back e _ _ _ _ fs _ v (passed p ss K h o n) s d = pass p ss K v fs o d
 back e _ _ _ _ fs _ v (stopped p K h) s d = stop p K v fs d
 back e _ _ _ _ fs _ [] (again p c t K a y) s d = absurd (subst HasHead s tt)
 back e _ _ _ _ fs _ (x ∷ v) (again p c t K a y) s d =

@@ -5,7 +5,6 @@ use Rattle.vv_grammar.specs.declared.place.Place.{Place}
 use Rattle.vv_grammar.specs.declared.step.Step.{Step}
 use Rattle.vv_grammar.specs.declared.step.Step.TheVariants as step
 use Rattle.vv_grammar.specs.Table.{Choice, alternatives, otherwise}
-use Rattle.vv_grammar_laws.specs.Derivations.{is_greedy}
 use Rattle.vv_grammar_laws.proofs.Codes.{code, codes, within, apart}
 use Rattle.vv_grammar_laws.proofs.Sets.{empty, first, follow}
 
@@ -57,7 +56,7 @@ else_fits None p cs = true
 else_fits (Some ss) p cs =
     (not (nulls ss) || empty p)
     && (within (firsts ss []) (first p)
-    && ((is_greedy p || apart (firsts ss (follow p)) (turns cs))
+    && (apart (firsts ss (follow p)) (turns cs)
     && fits ss (follow p)))
 
 abbrev pub check : Edition → Place → Bool

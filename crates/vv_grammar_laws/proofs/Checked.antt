@@ -28,6 +28,7 @@ checked e place.Factor = refl
 checked e place.Power = refl
 checked e place.Primary = refl
 checked e place.NameParts = refl
+checked e place.NamePartsBehindMark = refl
 checked e place.BehindTick = refl
 checked e place.Argument = refl
 checked e place.ArgumentBehindIdent = refl

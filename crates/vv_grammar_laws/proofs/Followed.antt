@@ -9,7 +9,7 @@ use Rattle.vv_grammar.specs.declared.step.Step.TheVariants as step
 use Rattle.vv_grammar.specs.declared.terminal.Terminal.{Terminal}
 use Rattle.vv_grammar.specs.Terminals.{contains}
 use Rattle.vv_grammar.specs.Table.{Choice, alternatives, otherwise}
-use Rattle.vv_grammar_laws.specs.Derivations.{IsAmong, first as here, later, Derives, done, make, skip, keep, call, pass, stop, more, is_greedy}
+use Rattle.vv_grammar_laws.specs.Derivations.{IsAmong, first as here, later, Derives, done, make, skip, keep, call, pass, stop, more}
 use Rattle.vv_grammar_laws.proofs.Codes.{code, same-code, has, has-here, has-left, has-right, has-cases, within, within-has, apart, apart-has, codes, codes-has}
 use Rattle.vv_grammar_laws.proofs.Sets.{empty, first, follow}
 use Rattle.vv_grammar_laws.proofs.Check.{joined, firsts, nulls, fits, turns, are_single, each_fits, else_fits}
@@ -132,16 +132,16 @@ turn-first e p c t a h = within-has (turns (alternatives e p)) (first p) (code t
 pub record IsElse (p : Place) (cs : List Choice) (ss : List Step) : Type 0 where
   pub nulled : (not (nulls ss) || empty p) ≡ true
   pub inside : within (firsts ss []) (first p) ≡ true
-  pub told : (is_greedy p || apart (firsts ss (follow p)) (turns cs)) ≡ true
+  pub told : apart (firsts ss (follow p)) (turns cs) ≡ true
   pub fit : fits ss (follow p) ≡ true
 
 pub is_else : (e : Edition) (p : Place) (ss : List Step) → otherwise p ≡ Some ss → IsElse p (alternatives e p) ss
 is_else e p ss o =
     let cs = alternatives e p in
     let h : else_fits (Some ss) p cs ≡ true = ap (λ (x : Option (List Step)). else_fits x p cs) (sym o) ∙ (is_checked e p).other in
-    let a = and_parts (not (nulls ss) || empty p) (within (firsts ss []) (first p) && ((is_greedy p || apart (firsts ss (follow p)) (turns cs)) && fits ss (follow p))) h in
-    let b = and_parts (within (firsts ss []) (first p)) ((is_greedy p || apart (firsts ss (follow p)) (turns cs)) && fits ss (follow p)) a.1 in
-    let c = and_parts (is_greedy p || apart (firsts ss (follow p)) (turns cs)) (fits ss (follow p)) b.1 in
+    let a = and_parts (not (nulls ss) || empty p) (within (firsts ss []) (first p) && (apart (firsts ss (follow p)) (turns cs) && fits ss (follow p))) h in
+    let b = and_parts (within (firsts ss []) (first p)) (apart (firsts ss (follow p)) (turns cs) && fits ss (follow p)) a.1 in
+    let c = and_parts (apart (firsts ss (follow p)) (turns cs)) (fits ss (follow p)) b.1 in
     record { nulled = a.0; inside = b.0; told = c.0; fit = c.1 }
 
 -- the first token is among these, if there is one
@@ -180,6 +180,6 @@ starts e _ _ _ (make f K u es d) = starts e K u es d
 starts e _ _ _ (skip w t K u es s d) = has-here (code w) (code t) [] (same-code w t s)
 starts e _ _ _ (keep w t K u es s d) = has-here (code w) (code t) [] (same-code w t s)
 starts e _ _ _ (call p c t K u es a h d) = joined-first (empty p) (first p) (firsts K []) (code t) (turn-first e p c t a h)
-starts e _ _ _ (pass p ss K u es o m d) = begins-mono u (firsts (ss ++ K) []) (firsts (step.Call p ∷ K) []) (else-within e p ss K o) (starts e (ss ++ K) u es d)
+starts e _ _ _ (pass p ss K u es o d) = begins-mono u (firsts (ss ++ K) []) (firsts (step.Call p ∷ K) []) (else-within e p ss K o) (starts e (ss ++ K) u es d)
 starts e _ _ _ (stop p K u es d) = begins-mono u (firsts K []) (first p ++ firsts K []) (λ c h. has-right (first p) (firsts K []) c h) (starts e K u es d)
 starts e _ _ _ (more p c t K u es a h d) = has-left (first p) (firsts K []) (code t) (turn-first e p c t a h)

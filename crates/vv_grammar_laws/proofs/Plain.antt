@@ -14,7 +14,7 @@ use Rattle.vv_grammar.specs.Table.{Choice, alternatives, otherwise}
 use Rattle.vv_grammar.specs.Machine.{Turn, turn, choose, chosen}
 use Rattle.vv_grammar.specs.declared.step.Take.{Take}
 use Rattle.vv_grammar.specs.declared.step.Take.TheVariants as take
-use Rattle.vv_grammar_laws.specs.Derivations.{IsAmong, first as here, later, left, noted, Derives, done, make, skip, keep, call, pass, stop, more, is_greedy, has_turn, may_pass}
+use Rattle.vv_grammar_laws.specs.Derivations.{IsAmong, first as here, later, left, noted, Derives, done, make, skip, keep, call, pass, stop, more}
 use Rattle.vv_grammar_laws.proofs.Codes.{code, has, has-left, has-right, within-has, apart, apart-has, codes, codes-has}
 use Rattle.vv_grammar_laws.proofs.Sets.{first, follow}
 use Rattle.vv_grammar_laws.proofs.Check.{firsts, turns, are_single}
@@ -81,14 +81,6 @@ none-turn (c ∷ cs) t h = elim (cases_Bool (contains c.on t)) [
   | inr n ↦ ap (λ (b : Bool). if b then Some (turn c.take c.steps) else choose cs t) n ∙ none-turn cs t (λ k. h (has-right (codes c.on) (turns cs) (code t) k))
 ]
 
-no-turn : (cs : List Choice) (t : Terminal) (u : List Terminal) → has_turn cs (t ∷ u) ≡ false → choose cs t ≡ None
-no-turn [] t u h = refl
-no-turn (c ∷ cs) t u h = go (contains c.on t) h (no-turn cs t u)
-  where
-    go : (b : Bool) → (b || has_turn cs (t ∷ u)) ≡ false → (has_turn cs (t ∷ u) ≡ false → choose cs t ≡ None) → (if b then Some (turn c.take c.steps) else choose cs t) ≡ None
-    go true h k = absurd (true≢false h)
-    go false h k = k h
-
 one-turn : (c : Choice) (cs : List Choice) (t : Terminal) → are_single cs ≡ true → IsAmong c cs → contains c.on t ≡ true → choose cs t ≡ Some (turn c.take c.steps)
 one-turn c [] t s a h = elim a [ ]
 one-turn c (_ ∷ cs) t s (here _ _) h = ap (λ (b : Bool). if b then Some (turn c.take c.steps) else choose cs t) h
@@ -108,18 +100,14 @@ stop-chosen e p K [] n b = refl
 stop-chosen e p K (t ∷ u) n b = none-turn (alternatives e p) t (λ h. n (code t) b (within-has (turns (alternatives e p)) (first p) (code t) (is_checked e p).turns_in h))
 
 -- where a place goes on otherwise, no alternative has the next token
-pass-chosen : (e : Edition) (p : Place) (ss K : List Step) (u : List Terminal) → otherwise p ≡ Some ss → Within (firsts K []) (follow p) → may_pass e p u ≡ true
+pass-chosen : (e : Edition) (p : Place) (ss K : List Step) (u : List Terminal) → otherwise p ≡ Some ss → Within (firsts K []) (follow p)
     → Begins u (firsts (ss ++ K) []) → chosen e p (head u) ≡ None
-pass-chosen e p ss K [] o w m b = refl
-pass-chosen e p ss K (t ∷ u) o w m b = let k = is_else e p ss o in go (is_greedy p) m k.told
+pass-chosen e p ss K [] o w b = refl
+pass-chosen e p ss K (t ∷ u) o w b =
+    none-turn (alternatives e p) t (λ h. apart-has (firsts ss (follow p)) (turns (alternatives e p)) (code t) (is_else e p ss o).told (at (code t) b) h)
   where
     at : Within (firsts (ss ++ K) []) (firsts ss (follow p))
     at c h = firsts-mono ss (firsts K []) (follow p) w c (ap (λ (xs : List ℕ). has xs c) (sym (firsts-append ss K)) ∙ h)
-
-    go : (g : Bool) → (not g || not (has_turn (alternatives e p) (t ∷ u))) ≡ true → (g || apart (firsts ss (follow p)) (turns (alternatives e p))) ≡ true
-        → choose (alternatives e p) t ≡ None
-    go true m told = no-turn (alternatives e p) t u (not-true (has_turn (alternatives e p) (t ∷ u)) m)
-    go false m told = none-turn (alternatives e p) t (λ h. apart-has (firsts ss (follow p)) (turns (alternatives e p)) (code t) told (at (code t) b) h)
 
 call-good : (e : Edition) (p : Place) (c : Choice) (K : List Step) → IsAmong c (alternatives e p) → Within (firsts K []) (follow p) → Good K → Good (c.steps ++ K)
 call-good e p c K a w g = good-append c.steps K (follow p) (among-fits c (alternatives e p) (follow p) a (is_checked e p).each) w g
@@ -145,9 +133,9 @@ forward e _ _ _ (call p c t K u es a h d) g =
     move (step.Call p ∷ K) (c.steps ++ K) (t ∷ u) (takes c.take) (noted c.take) es
     (ap (λ (r : Option Turn). called r (otherwise p) K) (turn-chosen e p c t a h))
     (turn-runs e c t (c.steps ++ K) u es (forward e (c.steps ++ K) (left c.take t u) es d (call-good e p c K a g.0 g.1)))
-forward e _ _ _ (pass p ss K u es o m d) g =
+forward e _ _ _ (pass p ss K u es o d) g =
     move (step.Call p ∷ K) (ss ++ K) u false [] es
-    (ap (λ (r : Option Turn). called r (otherwise p) K) (pass-chosen e p ss K u o g.0 m (starts e (ss ++ K) u es d))
+    (ap (λ (r : Option Turn). called r (otherwise p) K) (pass-chosen e p ss K u o g.0 (starts e (ss ++ K) u es d))
     ∙ ap (λ (o : Option (List Step)). called None o K) o)
     (forward e (ss ++ K) u es d (good-append ss K (follow p) (is_else e p ss o).fit g.0 g.1))
 forward e _ _ _ (stop p K u es d) g =

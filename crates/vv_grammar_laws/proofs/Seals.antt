@@ -13,12 +13,12 @@ use Rattle.vv_grammar.specs.declared.step.Take.{Take}
 use Rattle.vv_grammar.specs.declared.step.Take.TheVariants as take
 use Rattle.vv_grammar.specs.declared.terminal.Terminal.{Terminal}
 use Rattle.vv_grammar.specs.Table.{Choice, alternatives, otherwise}
-use Rattle.vv_grammar_laws.specs.Derivations.{IsAmong, first as here, later, Derives, done, make, skip, keep, call, pass, stop, more, is_greedy}
+use Rattle.vv_grammar_laws.specs.Derivations.{IsAmong, first as here, later, Derives, done, make, skip, keep, call, pass, stop, more}
 use Rattle.vv_grammar_laws.proofs.Sets.{empty}
 use Rattle.vv_grammar_laws.proofs.Check.{nulls}
 use Rattle.vv_grammar_laws.proofs.Followed.{is_else}
 use Rattle.vv_grammar_laws.proofs.Plain.{takes}
-use Rattle.vv_grammar_laws.proofs.Acts.{Acts, made, skipped, kept, chose, passed, stopped, again, or-not}
+use Rattle.vv_grammar_laws.proofs.Acts.{Acts, made, skipped, kept, chose, passed, stopped, again}
 
 abbrev pub is_closed : Place → Bool
 is_closed place.ExpressionBehindIdent = true
@@ -77,6 +77,7 @@ sealed e place.Factor = refl
 sealed e place.Power = refl
 sealed e place.Primary = refl
 sealed e place.NameParts = refl
+sealed e place.NamePartsBehindMark = refl
 sealed e place.BehindTick = refl
 sealed e place.Argument = refl
 sealed e place.ArgumentBehindIdent = refl
@@ -282,7 +283,7 @@ nulled e _ _ _ (make f K u es d) n = nulled e K u es d n
 nulled e _ _ _ (skip w t K u es s d) n = absurd n
 nulled e _ _ _ (keep w t K u es s d) n = absurd n
 nulled e _ _ _ (call p c t K u es a h d) n = absurd n
-nulled e _ _ _ (pass p ss K u es o m d) n =
+nulled e _ _ _ (pass p ss K u es o d) n =
     let b = nulls-parts ss K (nulled e (ss ++ K) u es d n) in
     and_from (empty p) (nulls K) (implied (nulls ss) (empty p) (is_else e p ss o).nulled b.0) b.1
 nulled e _ _ _ (stop p K u es d) n = nulled e K u es d n
@@ -302,7 +303,7 @@ back-end e _ _ _ _ fs _ (kept w t K y) s c d = absurd (true≢false s)
 back-end e _ _ _ _ fs _ (chose p k t K a y) s c d =
     let n = nulls-parts k.steps K (nulled e (k.steps ++ K) [] fs d tt) in
     absurd (c.0 (implied (looks k.take && nulls k.steps) (is_closed p) (choice-seals e p k a).0 (and_from (looks k.take) (nulls k.steps) (takes-looks k.take s) n.0)) n.1)
-back-end e _ _ _ _ fs _ (passed p ss K h o n) s c d = pass p ss K [] fs o (or-not (is_greedy p) false refl) d
+back-end e _ _ _ _ fs _ (passed p ss K h o n) s c d = pass p ss K [] fs o d
 back-end e _ _ _ _ fs _ (stopped p K h) s c d = stop p K [] fs d
 back-end e _ _ _ _ fs _ (again p k t K a y) s c d =
     let n = nulls-parts k.steps (step.Make form.Add ∷ step.Many p ∷ K) (nulled e (k.steps ++ (step.Make form.Add ∷ step.Many p ∷ K)) [] fs d tt) in

@@ -15,7 +15,7 @@ use Rattle.vv_grammar.specs.declared.terminal.Terminal.{Terminal}
 use Rattle.vv_grammar.specs.declared.terminal.Terminal.TheVariants as the
 use Rattle.vv_grammar.specs.Terminals.{same, contains}
 use Rattle.vv_grammar.specs.Table.{Choice, alternatives, otherwise}
-use Rattle.vv_grammar_laws.specs.Derivations.{IsAmong, first as here, later, left, noted, Derives, done, make, skip, keep, call, pass, stop, is_greedy, has_turn}
+use Rattle.vv_grammar_laws.specs.Derivations.{IsAmong, first as here, later, left, noted, Derives, done, make, skip, keep, call, pass, stop}
 use denote.Enum.Declared.{tag_of}
 use Rattle.vv_vlex.specs.contracts.word.Word as w
 use Rattle.vv_vlex.specs.contracts.sign.Sign as s
@@ -119,14 +119,13 @@ alternative [] i f = None
 alternative (c ∷ cs) zero f = taken_by c (made f c.steps)
 alternative (c ∷ cs) (suc i) f = alternative cs i f
 
-abbrev pub else_word : Bool → Option (List Step) → (Place → Option (List Terminal)) → Option (List Terminal)
-else_word true o f = None
-else_word false None f = None
-else_word false (Some ss) f = made f ss
+abbrev pub else_word : Option (List Step) → (Place → Option (List Terminal)) → Option (List Terminal)
+else_word None f = None
+else_word (Some ss) f = made f ss
 
 abbrev pub picked : Edition → Place → Option ℕ → (Place → Option (List Terminal)) → Option (List Terminal)
 picked e p (Some i) f = alternative (alternatives e p) i f
-picked e p None f = else_word (is_greedy p) (otherwise p) f
+picked e p None f = else_word (otherwise p) f
 
 abbrev pub word_of : Edition → ℕ → Place → Option (List Terminal)
 word_of e zero p = None
@@ -158,6 +157,7 @@ found e place.Factor = refl
 found e place.Power = refl
 found e place.Primary = refl
 found e place.NameParts = refl
+found e place.NamePartsBehindMark = refl
 found e place.BehindTick = refl
 found e place.Argument = refl
 found e place.ArgumentBehindIdent = refl
@@ -368,24 +368,18 @@ alternative-word e p f h [] a i = tt
 alternative-word e p f h (c ∷ cs) a zero = taken-by-word e p c (made f c.steps) (a c (here c cs)) (made-word e f h c.steps)
 alternative-word e p f h (c ∷ cs) a (suc i) = alternative-word e p f h cs (λ d b. a d (later d c cs b)) i
 
-not-greedy : (g b : Bool) → g ≡ false → (not g || b) ≡ true
-not-greedy true b h = absurd (true≢false h)
-not-greedy false b h = refl
-
 else-found : (e : Edition) (p : Place) (f : Place → Option (List Terminal)) → ((q : Place) → OnWord (IsWord e (step.Call q ∷ [])) (f q))
-    → (g : Bool) (o : Option (List Step)) → is_greedy p ≡ g → otherwise p ≡ o → OnWord (IsWord e (step.Call p ∷ [])) (else_word g o f)
-else-found e p f h true o i j = tt
-else-found e p f h false None i j = tt
-else-found e p f h false (Some ss) i j =
+    → (o : Option (List Step)) → otherwise p ≡ o → OnWord (IsWord e (step.Call p ∷ [])) (else_word o f)
+else-found e p f h None j = tt
+else-found e p f h (Some ss) j =
     on-word (IsWord e ss) (IsWord e (step.Call p ∷ [])) (made f ss)
-    (λ y g K v fs d. let k = g K v fs d in
-    record { events = k.events; derives = pass p ss K (y ++ v) k.events j (not-greedy (is_greedy p) (not (has_turn (alternatives e p) (y ++ v))) i) k.derives })
+    (λ y g K v fs d. let k = g K v fs d in record { events = k.events; derives = pass p ss K (y ++ v) k.events j k.derives })
     (made-word e f h ss)
 
 picked-word : (e : Edition) (p : Place) (f : Place → Option (List Terminal)) → ((q : Place) → OnWord (IsWord e (step.Call q ∷ [])) (f q))
     → (i : Option ℕ) → OnWord (IsWord e (step.Call p ∷ [])) (picked e p i f)
 picked-word e p f h (Some i) = alternative-word e p f h (alternatives e p) (λ c a. a) i
-picked-word e p f h None = else-found e p f h (is_greedy p) (otherwise p) refl refl
+picked-word e p f h None = else-found e p f h (otherwise p) refl
 
 pub word-of : (e : Edition) (n : ℕ) (p : Place) → OnWord (IsWord e (step.Call p ∷ [])) (word_of e n p)
 word-of e zero p = tt

@@ -1,12 +1,11 @@
 -- The grammar without a machine: the tokens that steps derive, and what happens meanwhile. A place goes on by any alternative that has the next token.
-use Rattle.std.specs.Prelude.{◌≡◌, Bool, true, false, not, ◌||◌, List, [], ◌∷◌, ◌++◌, Some}
+use Rattle.std.specs.Prelude.{◌≡◌, true, List, [], ◌∷◌, ◌++◌, Some}
 use Rattle.vv_grammar.specs.declared.edition.Edition.{Edition}
 use Rattle.vv_grammar.specs.declared.event.Event.{Event}
 use Rattle.vv_grammar.specs.declared.event.Event.TheVariants as event
 use Rattle.vv_grammar.specs.declared.form.Form.{Form}
 use Rattle.vv_grammar.specs.declared.form.Form.TheVariants as form
 use Rattle.vv_grammar.specs.declared.place.Place.{Place}
-use Rattle.vv_grammar.specs.declared.place.Place.TheVariants as place
 use Rattle.vv_grammar.specs.declared.step.Step.{Step}
 use Rattle.vv_grammar.specs.declared.step.Step.TheVariants as step
 use Rattle.vv_grammar.specs.declared.step.Take.{Take}
@@ -32,27 +31,6 @@ noted take.Keep = event.Keep ∷ []
 noted take.Skip = event.Skip ∷ []
 noted take.Look = []
 
--- Places whose alternatives come before all else that could start with their tokens: as far as it can be read so, an identifier is a formal name or a part of a type mark.
-abbrev pub is_greedy : Place → Bool
-is_greedy place.Argument = true
-is_greedy place.DiscreteRange = true
-is_greedy place.DiscreteRangeBehindMark = true
-is_greedy place.ArrayIndex = true
-is_greedy place.ArrayIndexBehindMark = true
-is_greedy place.ConcurrentBehindMark = true
-is_greedy place.Association = true
-is_greedy _ = false
-
--- whether an alternative has the first of the tokens
-abbrev pub has_turn : List Choice → List Terminal → Bool
-has_turn cs [] = false
-has_turn [] (t ∷ u) = false
-has_turn (c ∷ more) (t ∷ u) = contains c.on t || has_turn more (t ∷ u)
-
--- whether a place may go on otherwise before these tokens
-abbrev pub may_pass : Edition → Place → List Terminal → Bool
-may_pass e p u = not (is_greedy p) || not (has_turn (alternatives e p) u)
-
 -- The steps derive the tokens, and these events happen.
 pub data Derives (e : Edition) : List Step → List Terminal → List Event → Type 0 where
   done : Derives e [] [] []
@@ -68,7 +46,7 @@ pub data Derives (e : Edition) : List Step → List Terminal → List Event → 
       → Derives e (step.Call p ∷ K) (t ∷ u) (noted c.take ++ es)
   -- what the place admits else
   pass : (p : Place) (ss K : List Step) (u : List Terminal) (es : List Event)
-      → otherwise p ≡ Some ss → may_pass e p u ≡ true → Derives e (ss ++ K) u es → Derives e (step.Call p ∷ K) u es
+      → otherwise p ≡ Some ss → Derives e (ss ++ K) u es → Derives e (step.Call p ∷ K) u es
   -- no more of a list
   stop : (p : Place) (K : List Step) (u : List Terminal) (es : List Event) → Derives e K u es → Derives e (step.Many p ∷ K) u es
   -- one more part of a list

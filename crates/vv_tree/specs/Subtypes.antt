@@ -11,7 +11,7 @@ use Rattle.vv_tree.specs.declared.declaration.Constraint.TheVariants as constrai
 use Rattle.vv_tree.specs.declared.declaration.SubtypeIndication.{SubtypeIndication}
 
 abbrev pub mark_tree : Mark → Tree
-mark_tree m = node1 form.Mark (trees_of ident_tree m.identifiers.now) m.span
+mark_tree m = node2 form.Mark (ident_tree m.first) (trees_of ident_tree m.others.now) m.span
 
 abbrev pub discrete_tree : DiscreteRange → Tree
 discrete_tree (discrete.Range r) = range_tree r

@@ -13,7 +13,8 @@ use vv_base::fault::{Memory, Span};
 /// The mark of a type, a subtype or a unit: identifiers with dots between them.
 #[derive(Clone, Copy)]
 pub struct Mark<'a> {
-    pub identifiers: &'a [Ident],
+    pub first: Ident,
+    pub others: &'a [Ident],
     pub span: Span,
 }
 

@@ -4,7 +4,7 @@ use crate::form::Form;
 use crate::place::Place;
 use crate::step::Step::{Call, Keep, Make, Many, Skip};
 use crate::step::{Alternative, Step, Take};
-use crate::terminal::Terminal::{Id, Key, Mark};
+use crate::terminal::Terminal::{BitStr, Char, Id, Int, Key, Mark, Str};
 use vv_vlex::sign::Sign;
 use vv_vlex::word::Word;
 
@@ -41,7 +41,7 @@ pub const LABELLED_CONCURRENT: [Alternative; 8] = [
     (
         &[Id],
         Take::Keep,
-        &[Make(Form::One), Call(Place::ConcurrentBehindMark)],
+        &[Make(Form::Empty), Call(Place::ConcurrentBehindMark)],
     ),
     (
         &[Key(Word::Process)],
@@ -95,12 +95,17 @@ pub const LABELLED_CONCURRENT: [Alternative; 8] = [
     ),
 ];
 
-/// Behind a label, identifiers with dots between them were read: a component or a target.
+/// Behind a label, a name was read as far as it can be a mark: a component or a target.
 pub const CONCURRENT_BEHIND_MARK: [Alternative; 4] = [
     (
         &[Mark(Sign::Dot)],
         Take::Skip,
-        &[Keep(Id), Make(Form::Add), Call(Place::ConcurrentBehindMark)],
+        &[
+            Keep(Id),
+            Make(Form::SelectedPart),
+            Make(Form::Add),
+            Call(Place::ConcurrentBehindMark),
+        ],
     ),
     (
         &[Key(Word::Generic)],
@@ -149,10 +154,9 @@ pub const CONCURRENT_BEHIND_MARK: [Alternative; 4] = [
     ),
 ];
 
-pub const CONCURRENT_BEHIND_MARK_ELSE: [Step; 4] = [
-    Make(Form::Empty),
-    Call(Place::NameParts),
-    Make(Form::MarkName),
+pub const CONCURRENT_BEHIND_MARK_ELSE: [Step; 3] = [
+    Call(Place::NamePartsBehindMark),
+    Make(Form::Name),
     Call(Place::ConditionalRest),
 ];
 
@@ -244,19 +248,32 @@ pub const PORT_MAP: [Alternative; 1] = [(
 pub const PORT_MAP_ELSE: [Step; 1] = [Make(Form::Empty)];
 
 /// An association, or the formal name that stands before one.
-pub const ASSOCIATION: [Alternative; 2] = [
+pub const ASSOCIATION: [Alternative; 3] = [
     (&[Id], Take::Keep, &[Call(Place::AssociationBehindIdent)]),
     (
         &[Key(Word::Open)],
         Take::Keep,
         &[Make(Form::Open), Make(Form::PositionalAssociation)],
     ),
-];
-
-pub const ASSOCIATION_ELSE: [Step; 3] = [
-    Call(Place::Expression),
-    Make(Form::Given),
-    Make(Form::PositionalAssociation),
+    (
+        &[
+            Int,
+            Char,
+            Str,
+            BitStr,
+            Mark(Sign::Open),
+            Mark(Sign::Plus),
+            Mark(Sign::Minus),
+            Key(Word::Abs),
+            Key(Word::Not),
+        ],
+        Take::Look,
+        &[
+            Call(Place::Expression),
+            Make(Form::Given),
+            Make(Form::PositionalAssociation),
+        ],
+    ),
 ];
 
 pub const ASSOCIATION_BEHIND_IDENT: [Alternative; 1] = [(

@@ -4,7 +4,7 @@ use crate::form::Form;
 use crate::place::Place;
 use crate::step::Step::{Call, Keep, Make, Many, Skip};
 use crate::step::{Alternative, Step, Take};
-use crate::terminal::Terminal::{Char, Id, Key, Mark, Str};
+use crate::terminal::Terminal::{BitStr, Char, Id, Int, Key, Mark, Str};
 use vv_vlex::sign::Sign;
 use vv_vlex::word::Word;
 
@@ -384,24 +384,44 @@ pub const MORE_ENUMERATION_LITERALS: [Alternative; 1] = [(
 )];
 
 /// The index of an array type.
-pub const ARRAY_INDEX: [Alternative; 1] = [(
-    &[Id],
-    Take::Keep,
-    &[Make(Form::One), Call(Place::ArrayIndexBehindMark)],
-)];
-
-pub const ARRAY_INDEX_ELSE: [Step; 3] = [
-    Call(Place::Range),
-    Make(Form::Discrete),
-    Make(Form::Bounded),
+pub const ARRAY_INDEX: [Alternative; 2] = [
+    (
+        &[Id],
+        Take::Keep,
+        &[Make(Form::Empty), Call(Place::ArrayIndexBehindMark)],
+    ),
+    (
+        &[
+            Int,
+            Char,
+            Str,
+            BitStr,
+            Mark(Sign::Open),
+            Mark(Sign::Plus),
+            Mark(Sign::Minus),
+            Key(Word::Abs),
+            Key(Word::Not),
+        ],
+        Take::Look,
+        &[
+            Call(Place::Range),
+            Make(Form::Discrete),
+            Make(Form::Bounded),
+        ],
+    ),
 ];
 
-/// Identifiers with dots between them were read.
+/// A name was read as far as it can be a mark.
 pub const ARRAY_INDEX_BEHIND_MARK: [Alternative; 2] = [
     (
         &[Mark(Sign::Dot)],
         Take::Skip,
-        &[Keep(Id), Make(Form::Add), Call(Place::ArrayIndexBehindMark)],
+        &[
+            Keep(Id),
+            Make(Form::SelectedPart),
+            Make(Form::Add),
+            Call(Place::ArrayIndexBehindMark),
+        ],
     ),
     (
         &[Key(Word::Range)],
@@ -410,10 +430,9 @@ pub const ARRAY_INDEX_BEHIND_MARK: [Alternative; 2] = [
     ),
 ];
 
-pub const ARRAY_INDEX_BEHIND_MARK_ELSE: [Step; 12] = [
-    Make(Form::Empty),
-    Call(Place::NameParts),
-    Make(Form::MarkName),
+pub const ARRAY_INDEX_BEHIND_MARK_ELSE: [Step; 11] = [
+    Call(Place::NamePartsBehindMark),
+    Make(Form::Name),
     Call(Place::Power),
     Call(Place::Factors),
     Call(Place::Terms),

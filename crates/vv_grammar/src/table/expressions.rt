@@ -351,6 +351,32 @@ pub const NAME_PARTS: [Alternative; 3] = [
     ),
 ];
 
+/// The parts of a name behind what could be a mark: none of its own begins with a dot.
+pub const NAME_PARTS_BEHIND_MARK: [Alternative; 2] = [
+    (
+        &[Mark(Sign::Open)],
+        Take::Keep,
+        &[
+            Call(Place::Argument),
+            Make(Form::One),
+            Call(Place::MoreArguments),
+            Skip(Mark(Sign::Close)),
+            Make(Form::Arguments),
+            Make(Form::Add),
+            Call(Place::NameParts),
+        ],
+    ),
+    (
+        &[Mark(Sign::Tick)],
+        Take::Keep,
+        &[
+            Call(Place::BehindTick),
+            Make(Form::Add),
+            Call(Place::NameParts),
+        ],
+    ),
+];
+
 /// What stands behind a tick: an attribute, or the operand of a qualified expression.
 pub const BEHIND_TICK: [Alternative; 3] = [
     (&[Id], Take::Keep, &[Make(Form::Attribute)]),
@@ -367,9 +393,24 @@ pub const BEHIND_TICK: [Alternative; 3] = [
 ];
 
 /// An argument, or the formal name that stands before one.
-pub const ARGUMENT: [Alternative; 1] = [(&[Id], Take::Keep, &[Call(Place::ArgumentBehindIdent)])];
-
-pub const ARGUMENT_ELSE: [Step; 2] = [Call(Place::Range), Make(Form::Positional)];
+pub const ARGUMENT: [Alternative; 2] = [
+    (&[Id], Take::Keep, &[Call(Place::ArgumentBehindIdent)]),
+    (
+        &[
+            Int,
+            Char,
+            Str,
+            BitStr,
+            Mark(Sign::Open),
+            Mark(Sign::Plus),
+            Mark(Sign::Minus),
+            Key(Word::Abs),
+            Key(Word::Not),
+        ],
+        Take::Look,
+        &[Call(Place::Range), Make(Form::Positional)],
+    ),
+];
 
 pub const ARGUMENT_BEHIND_IDENT: [Alternative; 1] = [(
     &[Mark(Sign::Arrow)],
@@ -651,96 +692,6 @@ pub const MORE_CHOICES: [Alternative; 1] = [(
     ],
 )];
 
-/// A range, or one value.
-pub const RANGE_ELSE: [Step; 2] = [Call(Place::Expression), Call(Place::RangeEnd)];
-
-pub const RANGE_END: [Alternative; 1] = [(
-    &[Key(Word::To), Key(Word::Downto)],
-    Take::Keep,
-    &[Call(Place::Expression), Make(Form::Range)],
-)];
-
-pub const RANGE_END_ELSE: [Step; 1] = [Make(Form::Only)];
-
-/// A range by its bounds, or by a subtype with or without a range.
-pub const DISCRETE_RANGE: [Alternative; 1] = [(
-    &[Id],
-    Take::Keep,
-    &[Make(Form::One), Call(Place::DiscreteRangeBehindMark)],
-)];
-
-pub const DISCRETE_RANGE_ELSE: [Step; 2] = [Call(Place::Range), Make(Form::Discrete)];
-
-/// Identifiers with dots between them were read.
-pub const DISCRETE_RANGE_BEHIND_MARK: [Alternative; 2] = [
-    (
-        &[Mark(Sign::Dot)],
-        Take::Skip,
-        &[
-            Keep(Id),
-            Make(Form::Add),
-            Call(Place::DiscreteRangeBehindMark),
-        ],
-    ),
-    (
-        &[Key(Word::Range)],
-        Take::Skip,
-        &[Make(Form::Mark), Call(Place::Range), Make(Form::MarkRange)],
-    ),
-];
-
-pub const DISCRETE_RANGE_BEHIND_MARK_ELSE: [Step; 11] = [
-    Make(Form::Empty),
-    Call(Place::NameParts),
-    Make(Form::MarkName),
-    Call(Place::Power),
-    Call(Place::Factors),
-    Call(Place::Terms),
-    Call(Place::Shifted),
-    Call(Place::Compared),
-    Call(Place::Combined),
-    Call(Place::RangeEnd),
-    Make(Form::Discrete),
-];
-
-pub const MARK_PARTS: [Alternative; 1] = [(
-    &[Mark(Sign::Dot)],
-    Take::Skip,
-    &[Keep(Id), Make(Form::Add), Call(Place::MarkParts)],
-)];
-
-pub const MORE_IDENTS: [Alternative; 1] = [(
-    &[Mark(Sign::Comma)],
-    Take::Skip,
-    &[Keep(Id), Make(Form::Add), Call(Place::MoreIdents)],
-)];
-
-pub const CONSTRAINT: [Alternative; 2] = [
-    (
-        &[Mark(Sign::Open)],
-        Take::Skip,
-        &[
-            Call(Place::DiscreteRange),
-            Skip(Mark(Sign::Close)),
-            Make(Form::IndexConstraint),
-        ],
-    ),
-    (
-        &[Key(Word::Range)],
-        Take::Skip,
-        &[Call(Place::Range), Make(Form::RangeConstraint)],
-    ),
-];
-
-pub const CONSTRAINT_ELSE: [Step; 1] = [Make(Form::Absent)];
-
-/// A type mark: identifiers with dots between them.
-pub const TYPE_MARK: [Alternative; 1] = [(
-    &[Id],
-    Take::Keep,
-    &[Make(Form::One), Call(Place::MarkParts), Make(Form::Mark)],
-)];
-
 /// A name (IEEE 1076-1993, clause 6).
 pub const NAME: [Alternative; 1] = [(
     &[Id],
@@ -752,11 +703,4 @@ pub const CHOICES_ELSE: [Step; 3] = [
     Call(Place::Choice),
     Make(Form::One),
     Call(Place::MoreChoices),
-];
-
-/// A subtype indication (IEEE 1076-1993, clause 4.2).
-pub const SUBTYPE_INDICATION_ELSE: [Step; 3] = [
-    Call(Place::TypeMark),
-    Call(Place::Constraint),
-    Make(Form::Subtype),
 ];
