@@ -28,7 +28,7 @@ abbrev pub bare : List Pending → List Step
 bare [] = []
 bare (o ∷ K) = o.step ∷ bare K
 
-bare-steps : (ss : List Step) (o : Pending) (K : List Pending) → bare (steps_in ss o ++ K) ≡ ss ++ bare K
+pub bare-steps : (ss : List Step) (o : Pending) (K : List Pending) → bare (steps_in ss o ++ K) ≡ ss ++ bare K
 bare-steps [] o K = refl
 bare-steps (s ∷ ss) o K = ap (λ (x : List Step). s ∷ x) (bare-steps ss o K)
 
@@ -99,7 +99,7 @@ head-drop (x ∷ xs) (suc a) = head-drop xs a
 pub head-from : (ts : List Terminal) (a : ℕ) → head (drop a ts) ≡ next_terminal ts a
 head-from ts a = head-drop ts a
 
-drop-next : (xs ys : List Terminal) (x : Terminal) (a : ℕ) → drop a xs ≡ x ∷ ys → ys ≡ drop (a + 1) xs
+pub drop-next : (xs ys : List Terminal) (x : Terminal) (a : ℕ) → drop a xs ≡ x ∷ ys → ys ≡ drop (a + 1) xs
 drop-next [] ys x zero h = absurd (subst (λ (z : List Terminal). HasHead (head z)) (sym h) tt)
 drop-next [] ys x (suc a) h = absurd (subst (λ (z : List Terminal). HasHead (head z)) (sym h) tt)
 drop-next (y ∷ xs) ys x zero h = ap (behind true) (sym h)

@@ -1,139 +1,128 @@
--- Where something is too deep, the tokens up to where it starts are the start of something.
-use Rattle.std.proofs.Common.{◌≡◌, ℕ, ◌+◌, ◌≤◌, Bool, true, false, if◌then◌else◌, List, [], ◌∷◌, ◌++◌, drop, Option, Some, None, option_map, refl, subst, arith}
+-- Where the machine finds something too deep, it is so in all that starts with the same tokens.
+use Rattle.std.proofs.Common.{◌≡◌, inl, inr, ℕ, zero, suc, ◌+◌, ◌≤◌, List, [], ◌∷◌, ◌++◌, length, drop, Option, Some, None, refl, sym, ap, ◌∙◌, subst, arith}
 use Rattle.vv_grammar.specs.declared.edition.Edition.{Edition}
 use Rattle.vv_grammar.specs.declared.event.Event.{Event}
-use Rattle.vv_grammar.specs.declared.event.Event.TheVariants as event
-use Rattle.vv_grammar.specs.declared.form.Form.TheVariants as form
 use Rattle.vv_grammar.specs.declared.machine.Stop.TheVariants as stop
-use Rattle.vv_grammar.specs.declared.place.Place.{Place}
 use Rattle.vv_grammar.specs.declared.stack.Pending.{Pending}
-use Rattle.vv_grammar.specs.declared.step.Level.{Level}
-use Rattle.vv_grammar.specs.declared.step.Level.TheVariants as level
 use Rattle.vv_grammar.specs.declared.step.Step.{Step}
 use Rattle.vv_grammar.specs.declared.step.Step.TheVariants as step
-use Rattle.vv_grammar.specs.declared.step.Take.{Take}
-use Rattle.vv_grammar.specs.declared.step.Take.TheVariants as take
 use Rattle.vv_grammar.specs.declared.terminal.Terminal.{Terminal}
-use Rattle.vv_grammar.specs.Terminals.{same}
-use Rattle.vv_grammar.specs.Table.{otherwise, level_of}
+use Rattle.vv_grammar.specs.Table.{otherwise}
 use Rattle.vv_grammar.specs.Machine as machine
-use Rattle.vv_grammar.specs.Machine.{Turn, chosen, next_terminal, levels, fewer, with_expressions, with_statements, inside, starting, as_step, begun, steps_in, starting_with, Leads, here, further, Halts}
-use Rattle.vv_grammar_laws.specs.Starts.{Start, steps_for}
-use Rattle.vv_grammar_laws.specs.Readings.{IsDeep}
-use Rattle.vv_grammar_laws.proofs.Bridge.{bare}
-use Rattle.vv_grammar_laws.proofs.Ends.{start-way, viable-path}
+use Rattle.vv_grammar.specs.Machine.{next_terminal, starting_with, Leads, Halts}
+use Rattle.vv_grammar_laws.specs.Derivations.{Derives}
+use Rattle.vv_grammar_laws.specs.Depths.{openings, outermost, IsTooDeepAt}
+use Rattle.vv_grammar_laws.specs.Starts.{Start, steps_for, AreBetween}
+use Rattle.vv_grammar_laws.specs.Readings.{IsDeep, IsTooDeep, IsShallow, IsReadWhole}
+use Rattle.vv_grammar_laws.proofs.Plain.{head}
+use Rattle.vv_grammar_laws.proofs.Bridge.{head-from}
+use Rattle.vv_grammar_laws.proofs.Readings.{good-start}
+use Rattle.vv_grammar_laws.proofs.Back.{same_derivation}
+use Rattle.vv_grammar_laws.proofs.Complete.{complete}
+use Rattle.vv_grammar_laws.proofs.Ways.{AreThose, forced}
+use Rattle.vv_grammar_laws.proofs.States.{begin-stands, all-few, led, fine, Fine}
+use Rattle.vv_grammar_laws.proofs.Ends.{Way, start-way, steps-start, frames-start, goes-on}
 
--- all that is to come stands in what began by now
-abbrev pub AllBegan : List Pending → ℕ → Type 0
-AllBegan [] at = Unit {0}
-AllBegan (o ∷ K) at = (o.began ≤ at) × AllBegan K at
+abbrev IsDeepMove : machine.Move → Type 0
+IsDeepMove (machine.goes fs M c) = ⊥
+IsDeepMove machine.stuck = ⊥
+IsDeepMove (machine.deep i) = Unit {0}
+IsDeepMove machine.over = ⊥
 
-abbrev pub Fine : machine.Move → ℕ → Type 0
-Fine (machine.goes es L c) at = AllBegan L c
-Fine machine.stuck at = Unit {0}
-Fine (machine.deep n) at = n ≤ at
-Fine machine.over at = Unit {0}
-
-later-began : (K : List Pending) (at : ℕ) → AllBegan K at → AllBegan K (at + 1)
-later-began [] at h = tt
-later-began (o ∷ K) at h = (let i : o.began ≤ at = h.0 in omega (arith, i), later-began K at h.1)
-
-steps-began : (ss : List Step) (o : Pending) (K : List Pending) (c : ℕ) → o.began ≤ c → AllBegan K c → AllBegan (steps_in ss o ++ K) c
-steps-began [] o K c h k = k
-steps-began (s ∷ ss) o K c h k = (h, steps-began ss o K c h k)
-
-start-began : (ss : List Step) (o : Pending) (c : ℕ) → o.began ≤ c → AllBegan (steps_in ss o) c
-start-began [] o c h = tt
-start-began (s ∷ ss) o c h = (h, start-began ss o c h)
-
-taking-fine : (k : Take) (at : ℕ) (ss : List Step) (o : Pending) (K : List Pending) → o.began ≤ at → AllBegan K at → Fine (machine.taking k at ss o K) at
-taking-fine take.Keep at ss o K h k = steps-began ss (begun o at) K (at + 1) (omega arith) (later-began K at k)
-taking-fine take.Skip at ss o K h k = steps-began ss (begun o at) K (at + 1) (omega arith) (later-began K at k)
-taking-fine take.Look at ss o K h k = steps-began ss o K at h k
-
-entering-fine : (i : Option Pending) (from : ℕ) (r : Turn) (at : ℕ) (K : List Pending) → ((o : Pending) → i ≡ Some o → o.began ≤ at) → from ≤ at → AllBegan K at
-    → Fine (machine.entering i from r at K) at
-entering-fine None from r at K h f k = f
-entering-fine (Some o) from r at K h f k = taking-fine r.take at r.steps o K (h o refl) k
-
-abbrev pub BeganBy : ℕ → Option Pending → Type 0
-BeganBy at None = Unit {0}
-BeganBy at (Some o) = o.began ≤ at
-
-inside-began : (l : Level) (o : Pending) (at : ℕ) → o.began ≤ at → BeganBy at (inside l o)
-inside-began level.Same o at h = h
-inside-began level.Expression o at h = go (fewer o.expressions)
+-- nothing is too deep where there is no token
+never-blind : (e : Edition) (s : Step) (o : Pending) (at : ℕ) (K : List Pending) → IsDeepMove (machine.move_of e None s o at K) → ⊥
+never-blind e (step.Call p) o at K h = go (otherwise p) h
   where
-    go : (n : Option ℕ) → BeganBy at (option_map (with_expressions o) n)
-    go None = tt
-    go (Some n) = h
-inside-began level.ExpressionBehind o at h = go (fewer o.expressions)
+    go : (z : Option (List Step)) → IsDeepMove (machine.called None z p o at K) → ⊥
+    go None h = h
+    go (Some ss) h = h
+never-blind e (step.Many p) o at K h = h
+never-blind e (step.Skip w) o at K h = h
+never-blind e (step.Keep w) o at K h = h
+never-blind e (step.Make f) o at K h = h
+
+token-there : (e : Edition) (ts : List Terminal) (L : List Pending) (at n : ℕ) → machine.move e ts L at ≡ machine.deep n → (t : Terminal) × (next_terminal ts at ≡ Some t)
+token-there e ts [] at n m = absurd (subst IsDeepMove (sym m) tt)
+token-there e ts (o ∷ K) at n m = go (next_terminal ts at) refl
   where
-    go : (n : Option ℕ) → BeganBy at (option_map (with_expressions o) n)
-    go None = tt
-    go (Some n) = h
-inside-began level.Statement o at h = go (fewer o.statements)
-  where
-    go : (n : Option ℕ) → BeganBy at (option_map (with_statements o) n)
-    go None = tt
-    go (Some n) = h
-inside-began level.StatementBehind o at h = go (fewer o.statements)
-  where
-    go : (n : Option ℕ) → BeganBy at (option_map (with_statements o) n)
-    go None = tt
-    go (Some n) = h
+    go : (x : Option Terminal) → next_terminal ts at ≡ x → (t : Terminal) × (next_terminal ts at ≡ Some t)
+    go None h = absurd (never-blind e o.step o at K (subst (λ (x : Option Terminal). IsDeepMove (machine.move_of e x o.step o at K)) h (subst IsDeepMove (sym m) tt)))
+    go (Some t) h = (t, h)
 
-starting-by : (l : Level) (o : Pending) (at : ℕ) → o.began ≤ at → starting l o at ≤ at
-starting-by level.Same o at h = omega arith
-starting-by level.Expression o at h = omega arith
-starting-by level.ExpressionBehind o at h = h
-starting-by level.Statement o at h = omega arith
-starting-by level.StatementBehind o at h = h
+-- these tokens, and the next one, are those of the file
+prefix-heads : (q v w : List Terminal) (t : Terminal) (i : ℕ) → i ≤ length q → head v ≡ Some t → head w ≡ Some t → head (drop i (q ++ v)) ≡ head (drop i (q ++ w))
+prefix-heads [] v w t zero l h k = h ∙ sym k
+prefix-heads [] v w t (suc i) l h k = absurd (omega (arith, l))
+prefix-heads (x ∷ q) v w t zero l h k = refl
+prefix-heads (x ∷ q) v w t (suc i) l h k = prefix-heads q v w t i (omega (arith, l)) h k
 
-turning-fine : (p : Place) (r : Turn) (o : Pending) (at : ℕ) (K : List Pending) → o.began ≤ at → AllBegan K at → Fine (machine.turning p r o at K) at
-turning-fine p r o at K h k =
-    entering-fine (inside (level_of p) o) (starting (level_of p) o at) r at K (λ i e. subst (BeganBy at) e (inside-began (level_of p) o at h)) (starting-by (level_of p) o at h) k
+abbrev no-terminals : List Terminal
+no-terminals = []
 
-called-fine : (r : Option Turn) (x : Option (List Step)) (p : Place) (o : Pending) (at : ℕ) (K : List Pending) → o.began ≤ at → AllBegan K at → Fine (machine.called r x p o at K) at
-called-fine (Some r) x p o at K h k = turning-fine p r o at K h k
-called-fine None (Some ss) p o at K h k = steps-began ss o K at h k
-called-fine None None p o at K h k = tt
+drop-nothing : (n : ℕ) → no-terminals ≡ drop n no-terminals
+drop-nothing zero = refl
+drop-nothing (suc n) = refl
 
-repeated-fine : (r : Option Turn) (p : Place) (o : Pending) (at : ℕ) (K : List Pending) → o.began ≤ at → AllBegan K at → Fine (machine.repeated r p o at K) at
-repeated-fine None p o at K h k = k
-repeated-fine (Some r) p o at K h k = turning-fine p r o at (as_step o (step.Make form.Add) ∷ o ∷ K) h (h, (h, k))
+drop-drop : (a i : ℕ) (ts : List Terminal) → drop i (drop a ts) ≡ drop (a + i) ts
+drop-drop zero i ts = ap (λ (n : ℕ). drop n ts) (let g : i ≡ 0 + i = omega arith in g)
+drop-drop (suc a) i [] = sym (drop-nothing i) ∙ drop-nothing (suc a + i)
+drop-drop (suc a) i (t ∷ ts) = drop-drop a i ts ∙ ap (λ (n : ℕ). drop n (t ∷ ts)) (let g : suc (a + i) ≡ suc a + i = omega arith in g)
 
-token-fine : (f : Event) (w : Terminal) (t : Option Terminal) (at : ℕ) (K : List Pending) → AllBegan K at → Fine (machine.token f w t at K) at
-token-fine f w None at K k = tt
-token-fine f w (Some t) at K k = go (same w t)
-  where
-    go : (b : Bool) → Fine (if b then machine.goes (f ∷ []) K (at + 1) else machine.stuck) at
-    go true = later-began K at k
-    go false = tt
-
-step-fine : (e : Edition) (t : Option Terminal) (s : Step) (o : Pending) (at : ℕ) (K : List Pending) → o.began ≤ at → AllBegan K at → Fine (machine.move_of e t s o at K) at
-step-fine e t (step.Call p) o at K h k = called-fine (chosen e p t) (otherwise p) p o at K h k
-step-fine e t (step.Many p) o at K h k = repeated-fine (chosen e p t) p o at K h k
-step-fine e t (step.Skip w) o at K h k = token-fine event.Skip w t at K k
-step-fine e t (step.Keep w) o at K h k = token-fine event.Keep w t at K k
-step-fine e t (step.Make f) o at K h k = k
-
-fine : (e : Edition) (ts : List Terminal) (K : List Pending) (at : ℕ) → AllBegan K at → Fine (machine.move e ts K at) at
-fine e ts [] at k = tt
-fine e ts (o ∷ K) at k = step-fine e (next_terminal ts at) o.step o at K k.0 k.1
-
-led : (e : Edition) (ts : List Terminal) (K : List Pending) (a : ℕ) (es : List Event) (L : List Pending) (b : ℕ) → Leads e ts K a es L b → AllBegan K a → AllBegan L b
-led e _ _ _ _ _ _ (here _ ts K at) k = k
-led e _ _ _ _ _ _ (further _ ts K L M a b c es fs l m) k = subst (λ (x : machine.Move). Fine x b) m (fine e ts L b (led e ts K a es L b l k))
+those : (ts : List Terminal) (a b : ℕ) (q v : List Terminal) (t : Terminal) → AreBetween ts a b q → next_terminal ts b ≡ Some t → head v ≡ Some t → AreThose ts a b (q ++ v)
+those ts a b q v t w n h i l =
+    let size : b ≡ a + length q = w.size in
+    prefix-heads q v (drop b ts) t i (omega (arith, size, l)) h (head-from ts b ∙ n)
+    ∙ ap (λ (x : List Terminal). head (drop i x)) (sym w.split)
+    ∙ ap head (drop-drop a i ts)
+    ∙ head-from ts (a + i)
 
 pub too_deep : (e : Edition) (s : Start) (ts : List Terminal) (a n : ℕ) → Halts e ts (starting_with (steps_for s) a) a (stop.Deep n) → IsDeep e s ts a n
 too_deep e s ts a n h =
-    let w = start-way e s ts a h.next h.events h.rest h.leads in
-    let began = start-began (steps_for s) (record { step = step.Make form.Empty; expressions = levels; statements = levels; began = a }) a (omega arith) in
+    let K = starting_with (steps_for s) a in
+    let stand = begin-stands (steps_for s) a in
+    let w : Way e s ts a h.events h.rest h.next = start-way e s ts a h.next h.events h.rest h.leads in
+    let t = token-there e ts h.rest h.next n h.stops in
     record {
       next = h.next;
+      by = subst (λ (x : machine.Move). Fine x h.next) h.stops (fine e ts h.rest h.next (led e ts K a h.events h.rest h.next h.leads stand));
       tokens = w.0;
       between = w.1;
-      viable = viable-path e (bare h.rest) (drop h.next ts) (steps_for s) w.0 h.events w.2;
-      by = subst (λ (x : machine.Move). Fine x h.next) h.stops (fine e ts h.rest h.next (led e ts (starting_with (steps_for s) a) a h.events h.rest h.next h.leads began));
+      goes_on = goes-on e s ts a h.events h.rest h.next h.leads w.0 w.1;
+      token = t.0;
+      here = t.1;
+      settled = λ more es d. subst (λ (F : List Pending). IsTooDeepAt n (openings e (steps_for s) (w.0 ++ (t.0 ∷ more)) es d F a)) (frames-start s a)
+          (forced e ts K a h.events h.rest h.next n h.leads h.stops (steps_for s) (w.0 ++ (t.0 ∷ more)) es d (good-start s) (steps-start s a) (all-few K a stand)
+          (those ts a h.next w.0 (t.0 ∷ more) t.0 w.1 t.1 refl));
     }
+
+abbrev the_one : Terminal → Option Terminal → Terminal
+the_one t None = t
+the_one t (Some x) = x
+
+-- so it is in what the tokens of the file derive
+pub deep_in : (e : Edition) (s : Start) (ts : List Terminal) (a n : ℕ) (fs : List Event) (d : Derives e (steps_for s) (drop a ts) fs)
+    → Halts e ts (starting_with (steps_for s) a) a (stop.Deep n) → IsTooDeep e s (drop a ts) fs d a n
+deep_in e s ts a n fs d h = go (drop i.next ts) refl
+  where
+    i : IsDeep e s ts a n
+    i = too_deep e s ts a n h
+
+    go : (rest : List Terminal) → drop i.next ts ≡ rest → IsTooDeep e s (drop a ts) fs d a n
+    go [] k = absurd (subst IsSome (sym i.here ∙ sym (head-from ts i.next) ∙ ap head k) tt)
+      where
+        IsSome : Option Terminal → Type 0
+        IsSome None = ⊥
+        IsSome (Some t) = Unit {0}
+    go (t ∷ rest) k =
+        let is : t ≡ i.token = ap (the_one t) (ap head (sym k) ∙ head-from ts i.next ∙ i.here) in
+        let f = same_derivation e (steps_for s) (steps_for s) (drop a ts) (i.tokens ++ (i.token ∷ rest)) fs refl
+        (i.between.split ∙ ap (λ (x : List Terminal). i.tokens ++ x) (k ∙ ap (λ (x : Terminal). x ∷ rest) is)) d (outermost (steps_for s) a) a in
+        subst (IsTooDeepAt n) (sym f.1) (i.settled rest fs f.0)
+
+-- what is derived and not too deep is read
+pub whole : (e : Edition) (s : Start) (ts : List Terminal) (a : ℕ) (fs : List Event) (d : Derives e (steps_for s) (drop a ts) fs) → IsShallow e s (drop a ts) fs d a
+    → IsReadWhole e s ts a fs
+whole e s ts a fs d h = elim (complete e s ts a fs d) [
+  | inl r ↦ r
+  | inr w ↦ absurd (h w.0 (deep_in e s ts a w.0 fs d w.1))
+]

@@ -13,11 +13,12 @@ use Rattle.vv_grammar.specs.Table.{otherwise}
 use Rattle.vv_grammar.specs.Machine as machine
 use Rattle.vv_grammar.specs.Machine.{Turn, Outcome, Leads, here, further, Halts, chosen, drive, most_moves, outcome, next_terminal, starting_with}
 use Rattle.vv_grammar_laws.specs.Starts.{Start, steps_for}
-use Rattle.vv_grammar_laws.specs.Readings.{IsReading, IsRefusal}
+use Rattle.vv_grammar_laws.specs.Readings.{IsReading, IsRefusal, IsDeep}
 use Rattle.vv_grammar_laws.proofs.Plain as plain
 use Rattle.vv_grammar_laws.proofs.Plain.{Act, act, act_of}
 use Rattle.vv_grammar_laws.proofs.Bridge.{bare, Agrees, agrees}
 use Rattle.vv_grammar_laws.proofs.Ends.{reads, refuses}
+use Rattle.vv_grammar_laws.proofs.Deep.{too_deep}
 
 abbrev pub IsOn : Act → Type 0
 IsOn (plain.goes es L b) = Unit {0}
@@ -86,3 +87,8 @@ pub driven_refuses : (e : Edition) (s : Start) (ts : List Terminal) (a n : ℕ) 
 driven_refuses e s ts a n h =
     let K = starting_with (steps_for s) a in
     refuses e s ts a n (subst (Told e ts K a) h (outcome-told e ts K a))
+
+pub driven_deep : (e : Edition) (s : Start) (ts : List Terminal) (a n : ℕ) → outcome e ts (starting_with (steps_for s) a) a ≡ machine.too_deep n → IsDeep e s ts a n
+driven_deep e s ts a n h =
+    let K = starting_with (steps_for s) a in
+    too_deep e s ts a n (subst (Told e ts K a) h (outcome-told e ts K a))

@@ -1,6 +1,6 @@
 -- What the machine reads is derived and is the longest, and what it refuses is derived by nothing.
-use Rattle.std.proofs.Common.{◌≡◌, ℕ, true, false, List, [], ◌∷◌, ◌++◌, drop, Some, refl, sym, ap, ◌∙◌, subst, append_assoc}
-use Rattle.std.proofs.lemmas.List.{append-nil}
+use Rattle.std.proofs.Common.{◌≡◌, ℕ, true, List, [], ◌∷◌, ◌++◌, drop, Some, refl, sym, ap, ◌∙◌, subst, append_assoc}
+use Rattle.std.proofs.lemmas.List.{append-nil, append_cancel_right}
 use Rattle.vv_grammar.specs.declared.edition.Edition.{Edition}
 use Rattle.vv_grammar.specs.declared.event.Event.{Event}
 use Rattle.vv_grammar.specs.declared.machine.Stop.TheVariants as stop
@@ -13,14 +13,18 @@ use Rattle.vv_grammar.specs.declared.form.Form.TheVariants as form
 use Rattle.vv_grammar.specs.declared.step.Step.TheVariants as step
 use Rattle.vv_grammar_laws.specs.Derivations.{Derives, IsViable}
 use Rattle.vv_grammar_laws.specs.Starts.{Start, file, expression, name, aggregate, steps_for, AreBetween}
-use Rattle.vv_grammar_laws.specs.Readings.{IsReading, IsRefusal}
+use Rattle.vv_grammar_laws.specs.Readings.{IsReading, IsRefusal, IsTooDeep, GoesOn}
 use Rattle.vv_grammar_laws.proofs.Plain as plain
 use Rattle.vv_grammar_laws.proofs.Plain.{Act, act, head, forward, Runs}
-use Rattle.vv_grammar_laws.proofs.Acts.{as_acts, back}
 use Rattle.vv_grammar_laws.proofs.Seals.{Closed, closed-append}
-use Rattle.vv_grammar_laws.proofs.Paths.{Path, looks, takes, Onward, follow, not-stuck, not-further, derived}
+use Rattle.vv_grammar_laws.proofs.Paths.{Path, Onward, follow, not-stuck, not-further, derived}
 use Rattle.vv_grammar_laws.proofs.Bridge.{bare, bare-start, Agrees, agrees, head-from, way}
-use Rattle.vv_grammar_laws.proofs.Words.{productive}
+use Rattle.vv_grammar_laws.specs.Depths.{openings, outermost, IsTooDeepAt}
+use Rattle.vv_grammar_laws.proofs.Calm.{Calm, Arrival, arrival}
+use Rattle.vv_grammar_laws.proofs.Moves.{seen_all}
+use Rattle.vv_grammar_laws.proofs.Back.{same_derivation}
+use Rattle.vv_grammar_laws.proofs.States.{begin-stands}
+use Rattle.vv_grammar_laws.proofs.Free.{freely, shallowly}
 use Rattle.vv_grammar_laws.proofs.Readings.{good-start, at_most_one}
 
 closed-start : (s : Start) → Closed (steps_for s)
@@ -28,16 +32,6 @@ closed-start file = closed-append (steps_for file) [] true refl (λ h. refl) tt
 closed-start expression = closed-append (steps_for expression) [] true refl (λ h. refl) tt
 closed-start name = closed-append (steps_for name) [] true refl (λ h. refl) tt
 closed-start aggregate = closed-append (steps_for aggregate) [] true refl (λ h. refl) tt
-
--- what was gone through is the start of something
-pub viable-path : (e : Edition) (M : List Step) (v : List Terminal) (K : List Step) (q : List Terminal) (es : List Event) → Path e M v K q es → IsViable e K q
-viable-path e M v K [] es p = let r = productive e K in record { more = r.0; events = r.1.events; derives = r.1.derives }
-viable-path e M v _ (t ∷ q) _ (looks K L _ es fs m p) =
-    let i = viable-path e M v L (t ∷ q) fs p in
-    record { more = i.more; events = es ++ i.events; derives = back e K L (Some t) es i.events false (t ∷ (q ++ i.more)) (as_acts e K (Some t) es L false m) refl i.derives }
-viable-path e M v _ (_ ∷ _) _ (takes K L t q es fs m p) =
-    let i = viable-path e M v L q fs p in
-    record { more = i.more; events = es ++ i.events; derives = back e K L (Some t) es i.events true (t ∷ (q ++ i.more)) (as_acts e K (Some t) es L true m) refl i.derives }
 
 -- from a start
 abbrev pub Way : Edition → Start → List Terminal → ℕ → List Event → List Pending → ℕ → Type 0
@@ -59,17 +53,77 @@ followed e s M v q es t h p i =
     let r = forward e (steps_for s) ((q ++ (t ∷ [])) ++ i.more) i.events i.derives (good-start s) in
     follow e M v (t ∷ i.more) h (steps_for s) q es i.events p (subst (λ (x : List Terminal). Runs e (steps_for s) x i.events) (append_assoc q (t ∷ []) i.more) r)
 
+-- the same tokens between the same numbers
+between-one : (ts : List Terminal) (a b : ℕ) (p q : List Terminal) → AreBetween ts a b p → AreBetween ts a b q → p ≡ q
+between-one ts a b p q v w = append_cancel_right p q (drop b ts) (sym v.split ∙ w.split)
+
+calm-start : (s : Start) (a : ℕ) → Calm (starting_with (steps_for s) a)
+calm-start file a = (refl, (refl, (refl, tt)))
+calm-start expression a = (refl, tt)
+calm-start name a = (refl, tt)
+calm-start aggregate a = (refl, (refl, tt))
+
+-- what stands round the first steps
+pub frames-start : (s : Start) (a : ℕ) → seen_all (starting_with (steps_for s) a) ≡ outermost (steps_for s) a
+frames-start file a = refl
+frames-start expression a = refl
+frames-start name a = refl
+frames-start aggregate a = refl
+
+pub steps-start : (s : Start) (a : ℕ) → bare (starting_with (steps_for s) a) ≡ steps_for s
+unfolding around
+steps-start s a = bare-start (steps_for s) (around a)
+
+pub came : (e : Edition) (s : Start) (ts : List Terminal) (a : ℕ) (es : List Event) (L : List Pending) (b : ℕ) → Leads e ts (starting_with (steps_for s) a) a es L b
+    → Arrival e ts (starting_with (steps_for s) a) a L b
+came e s ts a es L b l = (arrival e ts (starting_with (steps_for s) a) a es L b l (calm-start s a)).0
+
+-- the tokens that were gone through go on to something in which nothing before the next one is too deep
+pub goes-on : (e : Edition) (s : Start) (ts : List Terminal) (a : ℕ) (es : List Event) (L : List Pending) (b : ℕ) → Leads e ts (starting_with (steps_for s) a) a es L b
+    → (q : List Terminal) → AreBetween ts a b q → GoesOn e s a b q
+goes-on e s ts a es L b l q w =
+    let K = starting_with (steps_for s) a in
+    let r = freely e ts K a L b (begin-stands (steps_for s) a) (came e s ts a es L b l) in
+    let d = same_derivation e (bare K) (steps_for s) (r.tokens ++ r.more) (q ++ r.more) r.events (steps-start s a)
+    (ap (λ (x : List Terminal). x ++ r.more) (between-one ts a b r.tokens q r.between w)) r.derives (seen_all K) a in
+    record {
+      more = r.more;
+      events = r.events;
+      derives = d.0;
+      free = λ n l h. r.free n l (subst (IsTooDeepAt n)
+          (ap (λ (F : List Pending). openings e (steps_for s) (q ++ r.more) r.events d.0 F a) (sym (frames-start s a)) ∙ sym d.1) h);
+    }
+
 abbrev pub IsNonempty : List Terminal → Type 0
 IsNonempty [] = ⊥
 IsNonempty (t ∷ u) = Unit {0}
 
+-- what was read, derived so that nothing in it is too deep
+pub record ReadShallow (e : Edition) (s : Start) (ts : List Terminal) (a b : ℕ) (es : List Event) (q : List Terminal) : Type 0 where
+  pub derives : Derives e (steps_for s) q es
+  pub shallow : (n : ℕ) → IsTooDeep e s q es derives a n → ⊥
+
+read-shallow : (e : Edition) (s : Start) (ts : List Terminal) (a b : ℕ) (es : List Event) → Leads e ts (starting_with (steps_for s) a) a es [] b
+    → (q : List Terminal) → AreBetween ts a b q → Derives e (steps_for s) q es → ReadShallow e s ts a b es q
+read-shallow e s ts a b es l q w known =
+    let K = starting_with (steps_for s) a in
+    let r = shallowly e ts K a b (begin-stands (steps_for s) a) (subst Closed (sym (steps-start s a)) (closed-start s)) (came e s ts a es [] b l) in
+    let d = same_derivation e (bare K) (steps_for s) r.tokens q r.events (steps-start s a) (between-one ts a b r.tokens q r.between w) r.derives (seen_all K) a in
+    subst (λ (x : List Event). ReadShallow e s ts a b x q) (at_most_one e s q r.events es d.0 known) (record {
+      derives = d.0;
+      shallow = λ n h. r.none n (subst (IsTooDeepAt n)
+          (ap (λ (F : List Pending). openings e (steps_for s) q r.events d.0 F a) (sym (frames-start s a)) ∙ sym d.1) h);
+    })
+
 pub reads : (e : Edition) (s : Start) (ts : List Terminal) (a b : ℕ) (es : List Event) → Leads e ts (starting_with (steps_for s) a) a es [] b → IsReading e s ts a b es
 reads e s ts a b es l =
     let w = start-way e s ts a b es [] l in
+    let r = read-shallow e s ts a b es l w.0 w.1 (derived e (drop b ts) (steps_for s) w.0 es w.2 (closed-start s)) in
     record {
       tokens = w.0;
       between = w.1;
-      derives = derived e (drop b ts) (steps_for s) w.0 es w.2 (closed-start s);
+      derives = r.derives;
+      shallow = r.shallow;
       longest = λ t n i.
           let o = followed e s [] (drop b ts) w.0 es t (head-from ts b ∙ n) w.2 i in
           subst IsNonempty (not-further e [] (t ∷ i.more) o.events refl o.runs) tt;
@@ -79,7 +133,7 @@ pub refuses : (e : Edition) (s : Start) (ts : List Terminal) (a n : ℕ) → Hal
 refuses e s ts a n h = subst (IsRefusal e s ts a) (sym h.stops.1) (record {
   tokens = w.0;
   between = w.1;
-  viable = viable-path e (bare h.rest) (drop h.next ts) (steps_for s) w.0 h.events w.2;
+  goes_on = goes-on e s ts a h.events h.rest h.next h.leads w.0 w.1;
   never = λ t k i.
       let o = followed e s (bare h.rest) (drop h.next ts) w.0 h.events t (head-from ts h.next ∙ k) w.2 i in
       not-stuck e (bare h.rest) (t ∷ i.more) o.events (ap (act e (bare h.rest)) (sym k) ∙ stands) o.runs;

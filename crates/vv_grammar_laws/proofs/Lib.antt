@@ -9,8 +9,14 @@ pub mod Acts
 pub mod Seals
 pub mod Paths
 pub mod Bridge
+pub mod Calm
 pub mod Words
+pub mod Moves
+pub mod Ways
+pub mod Back
+pub mod States
+pub mod Free
 pub mod Ends
 pub mod Complete
-pub mod Driven
 pub mod Deep
+pub mod Driven

@@ -1,6 +1,6 @@
 -- The machine without levels: what is derived is gone through, and in one way.
-use Rattle.std.proofs.Common.{◌≡◌, inl, inr, ℕ, Bool, true, false, not, ◌||◌, if◌then◌else◌, List, [], ◌∷◌, ◌++◌, Option, Some, None, refl, sym, ap, ◌∙◌, subst}
-use Rattle.std.proofs.lemmas.Bool.{true≢false, and_parts, cases_Bool, not-true}
+use Rattle.std.proofs.Common.{◌≡◌, inl, inr, ℕ, Bool, true, false, if◌then◌else◌, List, [], ◌∷◌, ◌++◌, Option, Some, None, refl, sym, ap, ◌∙◌, subst}
+use Rattle.std.proofs.lemmas.Bool.{and_parts, cases_Bool}
 use Rattle.vv_grammar.specs.declared.edition.Edition.{Edition}
 use Rattle.vv_grammar.specs.declared.event.Event.{Event}
 use Rattle.vv_grammar.specs.declared.event.Event.TheVariants as event
@@ -95,12 +95,12 @@ pub turn-chosen : (e : Edition) (p : Place) (c : Choice) (t : Terminal) → IsAm
 turn-chosen e p c t a h = one-turn c (alternatives e p) t (is_checked e p).single a h
 
 -- where a list ends, no alternative has the next token
-stop-chosen : (e : Edition) (p : Place) (K : List Step) (u : List Terminal) → Apart (firsts K []) (first p) → Begins u (firsts K []) → chosen e p (head u) ≡ None
+pub stop-chosen : (e : Edition) (p : Place) (K : List Step) (u : List Terminal) → Apart (firsts K []) (first p) → Begins u (firsts K []) → chosen e p (head u) ≡ None
 stop-chosen e p K [] n b = refl
 stop-chosen e p K (t ∷ u) n b = none-turn (alternatives e p) t (λ h. n (code t) b (within-has (turns (alternatives e p)) (first p) (code t) (is_checked e p).turns_in h))
 
 -- where a place goes on otherwise, no alternative has the next token
-pass-chosen : (e : Edition) (p : Place) (ss K : List Step) (u : List Terminal) → otherwise p ≡ Some ss → Within (firsts K []) (follow p)
+pub pass-chosen : (e : Edition) (p : Place) (ss K : List Step) (u : List Terminal) → otherwise p ≡ Some ss → Within (firsts K []) (follow p)
     → Begins u (firsts (ss ++ K) []) → chosen e p (head u) ≡ None
 pass-chosen e p ss K [] o w b = refl
 pass-chosen e p ss K (t ∷ u) o w b =
@@ -109,7 +109,7 @@ pass-chosen e p ss K (t ∷ u) o w b =
     at : Within (firsts (ss ++ K) []) (firsts ss (follow p))
     at c h = firsts-mono ss (firsts K []) (follow p) w c (ap (λ (xs : List ℕ). has xs c) (sym (firsts-append ss K)) ∙ h)
 
-call-good : (e : Edition) (p : Place) (c : Choice) (K : List Step) → IsAmong c (alternatives e p) → Within (firsts K []) (follow p) → Good K → Good (c.steps ++ K)
+pub call-good : (e : Edition) (p : Place) (c : Choice) (K : List Step) → IsAmong c (alternatives e p) → Within (firsts K []) (follow p) → Good K → Good (c.steps ++ K)
 call-good e p c K a w g = good-append c.steps K (follow p) (among-fits c (alternatives e p) (follow p) a (is_checked e p).each) w g
 
 left-behind : (k : Take) (t : Terminal) (u : List Terminal) → left k t u ≡ behind (takes k) (t ∷ u)

@@ -1,3 +1,4 @@
 pub mod Derivations
+pub mod Depths
 pub mod Starts
 pub mod Readings

@@ -4,9 +4,9 @@ ghost use Rattle.std.specs.Prelude.{◌≡◌, ℕ, List, [], drop};
 ghost use Rattle.vv_grammar.specs.declared.event.Event.{Event};
 ghost use Rattle.vv_grammar.specs.declared.machine.Stop.TheVariants.{Deep, Misplaced};
 ghost use Rattle.vv_grammar.specs.declared.terminal.Terminal.{Terminal};
-ghost use Rattle.vv_grammar.specs.Machine.{Halts, Leads, misplaced, outcome, reads, starting_with};
+ghost use Rattle.vv_grammar.specs.Machine.{Halts, Leads, misplaced, outcome, reads, starting_with, too_deep};
 ghost use Rattle.vv_grammar_laws.specs.Derivations.{Derives};
-ghost use Rattle.vv_grammar_laws.specs.Readings.{IsDeep, IsReading, IsReadWhole, IsRefusal};
+ghost use Rattle.vv_grammar_laws.specs.Readings.{IsDeep, IsReading, IsReadWhole, IsRefusal, IsShallow, IsTooDeep};
 ghost use Rattle.vv_grammar_laws.specs.Starts.{Start, steps_for};
 
 use vv_grammar::edition::Edition;
@@ -27,22 +27,27 @@ pub fn refusals_are_exact(edition: Edition, tokens: &[Terminal])
     ensures { (s : Start) (at n : ℕ) → Halts edition tokens.now (starting_with (steps_for s) at) at (Misplaced n) → IsRefusal edition s tokens.now at n }
 {}
 
-/// Where something is too deep, no token before it is misplaced.
-pub fn what_is_too_deep_is_placed(edition: Edition, tokens: &[Terminal])
+/// What the machine finds too deep is so in all that starts with the same tokens, and before that nothing has to be too deep.
+pub fn what_is_too_deep_is_settled(edition: Edition, tokens: &[Terminal])
     ensures { (s : Start) (at n : ℕ) → Halts edition tokens.now (starting_with (steps_for s) at) at (Deep n) → IsDeep edition s tokens.now at n }
 {}
 
-/// Where all tokens from one on are derived, they are read, nothing else is read and none is refused.
+/// Where all tokens from one on are derived and nothing in them is too deep, they are read; nothing else is read, none is refused as misplaced, and what is
+/// refused as too deep is too deep.
 pub fn what_is_derived_is_read(edition: Edition, tokens: &[Terminal])
-    ensures whole { (s : Start) (at : ℕ) (es : List Event) → Derives edition (steps_for s) (drop at tokens.now) es → IsReadWhole edition s tokens.now at es }
+    ensures whole { (s : Start) (at : ℕ) (es : List Event) (d : Derives edition (steps_for s) (drop at tokens.now) es)
+        → IsShallow edition s (drop at tokens.now) es d at → IsReadWhole edition s tokens.now at es }
     ensures read { (s : Start) (at next : ℕ) (es fs : List Event) → Derives edition (steps_for s) (drop at tokens.now) fs
         → Leads edition tokens.now (starting_with (steps_for s) at) at es [] next → (es ≡ fs) × (drop next tokens.now ≡ []) }
     ensures never { (s : Start) (at n : ℕ) (fs : List Event) → Derives edition (steps_for s) (drop at tokens.now) fs
         → Halts edition tokens.now (starting_with (steps_for s) at) at (Misplaced n) → ⊥ }
+    ensures deep { (s : Start) (at n : ℕ) (fs : List Event) (d : Derives edition (steps_for s) (drop at tokens.now) fs)
+        → Halts edition tokens.now (starting_with (steps_for s) at) at (Deep n) → IsTooDeep edition s (drop at tokens.now) fs d at n }
 {}
 
-/// The outcome of the machine is a reading or a refusal in the sense of derivations.
+/// The outcome of the machine is a reading, a misplaced token or something too deep, in the sense of derivations.
 pub fn outcomes_are_exact(edition: Edition, tokens: &[Terminal])
     ensures read { (s : Start) (at next : ℕ) (es : List Event) → outcome edition tokens.now (starting_with (steps_for s) at) at ≡ reads es next → IsReading edition s tokens.now at next es }
     ensures refused { (s : Start) (at n : ℕ) → outcome edition tokens.now (starting_with (steps_for s) at) at ≡ misplaced n → IsRefusal edition s tokens.now at n }
+    ensures deep { (s : Start) (at n : ℕ) → outcome edition tokens.now (starting_with (steps_for s) at) at ≡ too_deep n → IsDeep edition s tokens.now at n }
 {}

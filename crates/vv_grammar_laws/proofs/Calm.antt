@@ -1,0 +1,331 @@
+-- Places that tell late where something began stand only before what is taken next.
+use Rattle.std.proofs.Common.{◌≡◌, ◌⊎◌, inl, inr, ℕ, ◌+◌, Bool, true, false, not, ◌&&◌, if◌then◌else◌, List, [], ◌∷◌, ◌++◌, Option, Some, None, refl, sym, ap, ◌∙◌, subst}
+use Rattle.std.proofs.lemmas.Bool.{and_parts}
+use Rattle.vv_grammar.specs.declared.edition.Edition.{Edition}
+use Rattle.vv_grammar.specs.declared.edition.Edition.TheVariants as edition
+use Rattle.vv_grammar.specs.declared.event.Event.{Event}
+use Rattle.vv_grammar.specs.declared.event.Event.TheVariants as event
+use Rattle.vv_grammar.specs.declared.form.Form.TheVariants as form
+use Rattle.vv_grammar.specs.declared.place.Place.{Place}
+use Rattle.vv_grammar.specs.declared.place.Place.TheVariants as place
+use Rattle.vv_grammar.specs.declared.stack.Pending.{Pending}
+use Rattle.vv_grammar.specs.declared.step.Level.{Level}
+use Rattle.vv_grammar.specs.declared.step.Level.TheVariants as level
+use Rattle.vv_grammar.specs.declared.step.Step.{Step}
+use Rattle.vv_grammar.specs.declared.step.Step.TheVariants as step
+use Rattle.vv_grammar.specs.declared.step.Take.{Take}
+use Rattle.vv_grammar.specs.declared.step.Take.TheVariants as take
+use Rattle.vv_grammar.specs.declared.terminal.Terminal.{Terminal}
+use Rattle.vv_grammar.specs.Terminals.{same}
+use Rattle.vv_grammar.specs.Table.{Choice, alternatives, otherwise, level_of}
+use Rattle.vv_grammar.specs.Machine as machine
+use Rattle.vv_grammar.specs.Machine.{Turn, turn, choose, chosen, next_terminal, inside, starting, as_step, begun, steps_in, Leads, here, further}
+use Rattle.vv_grammar_laws.specs.Derivations.{IsAmong, first, later}
+use Rattle.vv_grammar_laws.proofs.Acts.{Chosen, chosen-turn}
+
+-- whether something began at a token that was read before
+abbrev pub is_behind : Level → Bool
+is_behind level.ExpressionBehind = true
+is_behind level.StatementBehind = true
+is_behind _ = false
+
+abbrev pub is_calm : Step → Bool
+is_calm (step.Call p) = not (is_behind (level_of p))
+is_calm (step.Many p) = not (is_behind (level_of p))
+is_calm _ = true
+
+abbrev pub are_calm : List Step → Bool
+are_calm [] = true
+are_calm (s ∷ ss) = is_calm s && are_calm ss
+
+-- all but a first place that is called
+abbrev pub are_calm_behind : List Step → Bool
+are_calm_behind [] = true
+are_calm_behind (step.Call p ∷ ss) = are_calm ss
+are_calm_behind (s ∷ ss) = is_calm s && are_calm ss
+
+abbrev pub calm_choice : Take → List Step → Bool
+calm_choice take.Keep ss = are_calm ss
+calm_choice take.Skip ss = are_calm ss
+calm_choice take.Look ss = are_calm_behind ss
+
+abbrev pub calm_choices : List Choice → Bool
+calm_choices [] = true
+calm_choices (c ∷ cs) = calm_choice c.take c.steps && calm_choices cs
+
+abbrev pub calm_else : Option (List Step) → Bool
+calm_else None = true
+calm_else (Some ss) = are_calm_behind ss
+
+abbrev pub is_calm_place : Edition → Place → Bool
+is_calm_place e p = calm_choices (alternatives e p) && calm_else (otherwise p)
+
+pub calm-place : (e : Edition) (p : Place) → is_calm_place e p ≡ true
+calm-place e place.Expression = refl
+calm-place e place.ExpressionBehindIdent = refl
+calm-place e place.Combined = refl
+calm-place e place.MoreAnd = refl
+calm-place e place.MoreOr = refl
+calm-place e place.MoreXor = refl
+calm-place e place.MoreXnor = refl
+calm-place e place.Relation = refl
+calm-place e place.Compared = refl
+calm-place e place.ShiftExpression = refl
+calm-place e place.Shifted = refl
+calm-place e place.SimpleExpression = refl
+calm-place e place.Terms = refl
+calm-place e place.MoreTerms = refl
+calm-place e place.Term = refl
+calm-place e place.Factors = refl
+calm-place e place.MoreFactors = refl
+calm-place e place.Factor = refl
+calm-place e place.Power = refl
+calm-place e place.Primary = refl
+calm-place e place.NameParts = refl
+calm-place e place.NamePartsBehindMark = refl
+calm-place e place.BehindTick = refl
+calm-place e place.Argument = refl
+calm-place e place.ArgumentBehindIdent = refl
+calm-place e place.MoreArguments = refl
+calm-place e place.Parenthesis = refl
+calm-place e place.BehindFirst = refl
+calm-place e place.AggregateElements = refl
+calm-place e place.BehindFirstElement = refl
+calm-place e place.MoreElements = refl
+calm-place e place.Element = refl
+calm-place e place.BehindElement = refl
+calm-place e place.BehindChoices = refl
+calm-place e place.Choice = refl
+calm-place e place.MoreChoices = refl
+calm-place e place.Range = refl
+calm-place e place.RangeEnd = refl
+calm-place e place.DiscreteRange = refl
+calm-place e place.DiscreteRangeBehindMark = refl
+calm-place e place.MarkParts = refl
+calm-place e place.MoreIdents = refl
+calm-place e place.Constraint = refl
+calm-place e place.TypeMark = refl
+calm-place e place.Name = refl
+calm-place e place.Choices = refl
+calm-place e place.SubtypeIndication = refl
+calm-place e place.Declaration = refl
+calm-place e place.PackageDeclaration = refl
+calm-place e place.BodyDeclaration = refl
+calm-place e place.ProcessDeclaration = refl
+calm-place e place.FunctionEnd = refl
+calm-place e place.FunctionBody = refl
+calm-place e place.Designator = refl
+calm-place e place.EndFunction = refl
+calm-place e place.EndDesignator = refl
+calm-place e place.Parameters = refl
+calm-place e place.ConstantInterface = refl
+calm-place e place.ConstantInterfaceRest = refl
+calm-place e place.MoreConstantInterfaces = refl
+calm-place e place.ModeIn = refl
+calm-place e place.Default = refl
+calm-place e place.Generics = refl
+calm-place e place.Ports = refl
+calm-place e place.PortInterface = refl
+calm-place e place.PortInterfaceRest = refl
+calm-place e place.MorePortInterfaces = refl
+calm-place e place.Mode = refl
+calm-place e place.TypeDefinition = refl
+calm-place e place.EnumerationLiteral = refl
+calm-place e place.MoreEnumerationLiterals = refl
+calm-place e place.ArrayIndex = refl
+calm-place e place.ArrayIndexBehindMark = refl
+calm-place e place.ArrayIndexBehindRange = refl
+calm-place e place.BehindAttribute = refl
+calm-place e place.EntityDesignator = refl
+calm-place e place.MoreEntityDesignators = refl
+calm-place e place.EntityClass = refl
+calm-place e place.SelectedName = refl
+calm-place e place.MoreSelectedNames = refl
+calm-place e place.SelectedSuffix = refl
+calm-place e place.Suffix = refl
+calm-place e place.TypeRest = refl
+calm-place e place.SubtypeRest = refl
+calm-place e place.ObjectRest = refl
+calm-place e place.FunctionRest = refl
+calm-place e place.ComponentRest = refl
+calm-place e place.AttributeRest = refl
+calm-place e place.Concurrent = refl
+calm-place e place.ConcurrentBehindIdent = refl
+calm-place e place.LabelledConcurrent = refl
+calm-place e place.ConcurrentBehindMark = refl
+calm-place e place.BehindWaveform = refl
+calm-place e place.BehindCondition = refl
+calm-place e place.MoreSelections = refl
+calm-place e place.Report = refl
+calm-place e place.Severity = refl
+calm-place e place.OptionalArchitecture = refl
+calm-place e place.GenericMap = refl
+calm-place e place.PortMap = refl
+calm-place e place.Association = refl
+calm-place e place.AssociationBehindIdent = refl
+calm-place e place.ActualPart = refl
+calm-place e place.MoreAssociations = refl
+calm-place e place.GenerateDeclarations = refl
+calm-place e place.Sensitivity = refl
+calm-place edition.Vhdl93 place.SensitivityNames = refl
+calm-place edition.Vhdl08 place.SensitivityNames = refl
+calm-place e place.MoreNames = refl
+calm-place e place.OptionalIs = refl
+calm-place e place.EndName = refl
+calm-place e place.ProcessRest = refl
+calm-place e place.SelectRest = refl
+calm-place e place.ConditionalRest = refl
+calm-place e place.AssertionRest = refl
+calm-place e place.InstanceRest = refl
+calm-place e place.GenerateRest = refl
+calm-place e place.Statement = refl
+calm-place e place.StatementBehindIdent = refl
+calm-place e place.LabelledStatement = refl
+calm-place e place.MoreIfArms = refl
+calm-place e place.ElseArm = refl
+calm-place e place.MoreCaseArms = refl
+calm-place e place.OptionalName = refl
+calm-place e place.OptionalWhen = refl
+calm-place e place.IfRest = refl
+calm-place e place.CaseRest = refl
+calm-place e place.LoopRest = refl
+calm-place e place.LoopBody = refl
+calm-place e place.ExitRest = refl
+calm-place e place.AssignmentRest = refl
+calm-place e place.Unit = refl
+calm-place e place.UnitBehindContext = refl
+calm-place e place.BehindPackage = refl
+calm-place e place.EndPackage = refl
+calm-place e place.EndBody = refl
+calm-place e place.EndEntity = refl
+calm-place e place.EndArchitecture = refl
+calm-place e place.EntityRest = refl
+calm-place e place.ArchitectureRest = refl
+calm-place e place.LibraryRest = refl
+calm-place e place.UseRest = refl
+
+abbrev pub Calm : List Pending → Type 0
+Calm [] = Unit {0}
+Calm (o ∷ K) = (is_calm o.step ≡ true) × Calm K
+
+-- all but a first place that is called
+abbrev pub IsEdge : Step → Type 0
+IsEdge (step.Call p) = Unit {0}
+IsEdge (step.Many p) = not (is_behind (level_of p)) ≡ true
+IsEdge (step.Skip w) = Unit {0}
+IsEdge (step.Keep w) = Unit {0}
+IsEdge (step.Make f) = Unit {0}
+
+abbrev pub CalmBehind : List Pending → Type 0
+CalmBehind [] = Unit {0}
+CalmBehind (o ∷ K) = IsEdge o.step × Calm K
+
+edge : (s : Step) → is_calm s ≡ true → IsEdge s
+edge (step.Call p) h = tt
+edge (step.Many p) h = h
+edge (step.Skip w) h = tt
+edge (step.Keep w) h = tt
+edge (step.Make f) h = tt
+
+pub calm-behind : (K : List Pending) → Calm K → CalmBehind K
+calm-behind [] h = tt
+calm-behind (o ∷ K) h = (edge o.step h.0, h.1)
+
+pub calm-steps : (ss : List Step) (o : Pending) (K : List Pending) → are_calm ss ≡ true → Calm K → Calm (steps_in ss o ++ K)
+calm-steps [] o K h k = k
+calm-steps (s ∷ ss) o K h k = let b = and_parts (is_calm s) (are_calm ss) h in (b.0, calm-steps ss o K b.1 k)
+
+edge-steps : (ss : List Step) (o : Pending) (K : List Pending) → are_calm_behind ss ≡ true → Calm K → CalmBehind (steps_in ss o ++ K)
+edge-steps [] o K h k = calm-behind K k
+edge-steps (step.Call p ∷ ss) o K h k = (tt, calm-steps ss o K h k)
+edge-steps (step.Many p ∷ ss) o K h k = let b = and_parts (not (is_behind (level_of p))) (are_calm ss) h in (b.0, calm-steps ss o K b.1 k)
+edge-steps (step.Skip w ∷ ss) o K h k = (tt, calm-steps ss o K h k)
+edge-steps (step.Keep w ∷ ss) o K h k = (tt, calm-steps ss o K h k)
+edge-steps (step.Make f ∷ ss) o K h k = (tt, calm-steps ss o K h k)
+
+-- after a move all is calm, or no token was taken and all but the first step is
+abbrev pub Calms : ℕ → machine.Move → Type 0
+Calms at (machine.goes fs M c) = ((c ≡ at + 1) × Calm M) ⊎ ((c ≡ at) × CalmBehind M)
+Calms at machine.stuck = Unit {0}
+Calms at (machine.deep n) = Unit {0}
+Calms at machine.over = Unit {0}
+
+taking-calms : (k : Take) (ss : List Step) (o : Pending) (at : ℕ) (K : List Pending) → calm_choice k ss ≡ true → Calm K → Calms at (machine.taking k at ss o K)
+taking-calms take.Keep ss o at K h k = inl (refl, calm-steps ss (begun o at) K h k)
+taking-calms take.Skip ss o at K h k = inl (refl, calm-steps ss (begun o at) K h k)
+taking-calms take.Look ss o at K h k = inr (refl, edge-steps ss o K h k)
+
+entering-calms : (i : Option Pending) (from : ℕ) (r : Turn) (at : ℕ) (K : List Pending) → calm_choice r.take r.steps ≡ true → Calm K → Calms at (machine.entering i from r at K)
+entering-calms None from r at K h k = tt
+entering-calms (Some o) from r at K h k = taking-calms r.take r.steps o at K h k
+
+among-calm : (c : Choice) (cs : List Choice) → IsAmong c cs → calm_choices cs ≡ true → calm_choice c.take c.steps ≡ true
+among-calm c [] a h = elim a [ ]
+among-calm c (_ ∷ cs) (first _ _) h = (and_parts (calm_choice c.take c.steps) (calm_choices cs) h).0
+among-calm c (_ ∷ cs) (later _ d _ a) h = among-calm c cs a (and_parts (calm_choice d.take d.steps) (calm_choices cs) h).1
+
+abbrev Turns : Option Turn → Type 0
+Turns None = Unit {0}
+Turns (Some r) = calm_choice r.take r.steps ≡ true
+
+turn-calm : (e : Edition) (p : Place) (x : Option Terminal) → Turns (chosen e p x)
+turn-calm e p None = tt
+turn-calm e p (Some t) = go (choose (alternatives e p) t) (chosen-turn (alternatives e p) t)
+  where
+    go : (r : Option Turn) → Chosen (alternatives e p) t r → Turns r
+    go None h = tt
+    go (Some r) h = subst (λ (x : Turn). calm_choice x.take x.steps ≡ true) h.is
+        (among-calm h.choice (alternatives e p) h.among (and_parts (calm_choices (alternatives e p)) (calm_else (otherwise p)) (calm-place e p)).0)
+
+called-calms : (r : Option Turn) (z : Option (List Step)) (p : Place) (o : Pending) (at : ℕ) (K : List Pending) → Turns r → calm_else z ≡ true → Calm K → Calms at (machine.called r z p o at K)
+called-calms (Some r) z p o at K t h k = entering-calms (inside (level_of p) o) (starting (level_of p) o at) r at K t k
+called-calms None (Some ss) p o at K t h k = inr (refl, edge-steps ss o K h k)
+called-calms None None p o at K t h k = tt
+
+repeated-calms : (r : Option Turn) (p : Place) (o : Pending) (at : ℕ) (K : List Pending) → Turns r → is_calm o.step ≡ true → Calm K → Calms at (machine.repeated r p o at K)
+repeated-calms None p o at K t h k = inr (refl, calm-behind K k)
+repeated-calms (Some r) p o at K t h k =
+    entering-calms (inside (level_of p) o) (starting (level_of p) o at) r at (as_step o (step.Make form.Add) ∷ (o ∷ K)) t (refl, (h, k))
+
+token-calms : (f : Event) (w : Terminal) (t : Option Terminal) (at : ℕ) (K : List Pending) → Calm K → Calms at (machine.token f w t at K)
+token-calms f w None at K k = tt
+token-calms f w (Some t) at K k = go (same w t)
+  where
+    go : (b : Bool) → Calms at (if b then machine.goes (f ∷ []) K (at + 1) else machine.stuck)
+    go true = inl (refl, k)
+    go false = tt
+
+step-calms : (e : Edition) (t : Option Terminal) (s : Step) (o : Pending) (at : ℕ) (K : List Pending) → o.step ≡ s → IsEdge s → Calm K → Calms at (machine.move_of e t s o at K)
+step-calms e t (step.Call p) o at K h i k = called-calms (chosen e p t) (otherwise p) p o at K (turn-calm e p t) (and_parts (calm_choices (alternatives e p)) (calm_else (otherwise p)) (calm-place e p)).1 k
+step-calms e t (step.Many p) o at K h i k = repeated-calms (chosen e p t) p o at K (turn-calm e p t) (ap is_calm h ∙ i) k
+step-calms e t (step.Skip w) o at K h i k = token-calms event.Skip w t at K k
+step-calms e t (step.Keep w) o at K h i k = token-calms event.Keep w t at K k
+step-calms e t (step.Make f) o at K h i k = inr (refl, calm-behind K k)
+
+calms : (e : Edition) (ts : List Terminal) (L : List Pending) (at : ℕ) → CalmBehind L → Calms at (machine.move e ts L at)
+calms e ts [] at h = tt
+calms e ts (o ∷ K) at h = step-calms e (next_terminal ts at) o.step o at K refl h.0 h.1
+
+-- How the machine came to a state: at its token it began, or it took the one before. All was calm then, and since then no token was taken.
+pub data Arrival (e : Edition) (ts : List Terminal) (K : List Pending) (a : ℕ) (Z : List Pending) : ℕ → Type 0 where
+  at_start : (rs : List Event) → Calm K → Leads e ts K a rs Z a → Arrival e ts K a Z a
+  by_token : (es fs rs : List Event) (L M : List Pending) (b : ℕ) → Leads e ts K a es L b → machine.move e ts L b ≡ machine.goes fs M (b + 1) → Calm M
+      → Leads e ts M (b + 1) rs Z (b + 1) → Arrival e ts K a Z (b + 1)
+
+on-from : (e : Edition) (ts : List Terminal) (K : List Pending) (a : ℕ) (L M : List Pending) (b : ℕ) (fs : List Event) → machine.move e ts L b ≡ machine.goes fs M b
+    → Arrival e ts K a L b → Arrival e ts K a M b
+on-from e ts K a L M _ fs m (at_start rs c l) = at_start (rs ++ fs) c (further e ts K L M a a a rs fs l m)
+on-from e ts K a L M _ fs m (by_token es gs rs O P b k n c l) = by_token es gs (rs ++ fs) O P b k n c (further e ts P L M (b + 1) (b + 1) (b + 1) rs fs l m)
+
+pub arrival : (e : Edition) (ts : List Terminal) (K : List Pending) (a : ℕ) (es : List Event) (L : List Pending) (b : ℕ) → Leads e ts K a es L b → Calm K
+    → Arrival e ts K a L b × CalmBehind L
+arrival e _ _ _ _ _ _ (here _ ts K at) k = (at_start [] k (here e ts K at), calm-behind K k)
+arrival e _ _ _ _ _ _ (further _ ts K L M a b c es fs l m) k =
+    let r = arrival e ts K a es L b l k in
+    elim (subst (Calms b) m (calms e ts L b r.1)) [
+      | inl all ↦ (
+        subst (Arrival e ts K a M) (sym all.0) (by_token es fs [] L M b l (m ∙ ap (λ (n : ℕ). machine.goes fs M n) all.0) all.1 (here e ts M (b + 1))),
+        calm-behind M all.1,
+      )
+      | inr same ↦ (subst (Arrival e ts K a M) (sym same.0) (on-from e ts K a L M b fs (m ∙ ap (λ (n : ℕ). machine.goes fs M n) same.0) r.0), same.1)
+    ]
