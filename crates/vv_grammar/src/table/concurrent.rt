@@ -96,7 +96,7 @@ pub const LABELLED_CONCURRENT: [Alternative; 8] = [
 ];
 
 /// Behind a label, a name was read as far as it can be a mark: a component or a target.
-pub const CONCURRENT_BEHIND_MARK: [Alternative; 4] = [
+pub const CONCURRENT_BEHIND_MARK: [Alternative; 2] = [
     (
         &[Mark(Sign::Dot)],
         Take::Skip,
@@ -108,48 +108,12 @@ pub const CONCURRENT_BEHIND_MARK: [Alternative; 4] = [
         ],
     ),
     (
-        &[Key(Word::Generic)],
-        Take::Skip,
+        &[Key(Word::Generic), Key(Word::Port), Mark(Sign::Semicolon)],
+        Take::Look,
         &[
             Make(Form::Mark),
             Make(Form::Component),
-            Skip(Key(Word::Map)),
-            Skip(Mark(Sign::Open)),
-            Call(Place::Association),
-            Make(Form::One),
-            Call(Place::MoreAssociations),
-            Skip(Mark(Sign::Close)),
-            Call(Place::PortMap),
-            Skip(Mark(Sign::Semicolon)),
-            Make(Form::Instance),
-        ],
-    ),
-    (
-        &[Key(Word::Port)],
-        Take::Skip,
-        &[
-            Make(Form::Mark),
-            Make(Form::Component),
-            Make(Form::Empty),
-            Skip(Key(Word::Map)),
-            Skip(Mark(Sign::Open)),
-            Call(Place::Association),
-            Make(Form::One),
-            Call(Place::MoreAssociations),
-            Skip(Mark(Sign::Close)),
-            Skip(Mark(Sign::Semicolon)),
-            Make(Form::Instance),
-        ],
-    ),
-    (
-        &[Mark(Sign::Semicolon)],
-        Take::Skip,
-        &[
-            Make(Form::Mark),
-            Make(Form::Component),
-            Make(Form::Empty),
-            Make(Form::Empty),
-            Make(Form::Instance),
+            Call(Place::InstanceRest),
         ],
     ),
 ];
@@ -303,30 +267,26 @@ pub const MORE_ASSOCIATIONS: [Alternative; 1] = [(
 )];
 
 /// The declarations of a generate statement, whose end is a begin.
-pub const GENERATE_DECLARATIONS: [Alternative; 2] = [
-    (
-        &[
-            Key(Word::Type),
-            Key(Word::Subtype),
-            Key(Word::Constant),
-            Key(Word::Signal),
-            Key(Word::Function),
-            Key(Word::Pure),
-            Key(Word::Attribute),
-            Key(Word::Use),
-            Key(Word::Component),
-        ],
-        Take::Look,
-        &[
-            Make(Form::Empty),
-            Call(Place::Declaration),
-            Make(Form::Add),
-            Many(Place::Declaration),
-            Skip(Key(Word::Begin)),
-        ],
-    ),
-    (&[Key(Word::Begin)], Take::Skip, &[Make(Form::Empty)]),
-];
+pub const GENERATE_DECLARATIONS: [Alternative; 1] = [(
+    &[
+        Key(Word::Type),
+        Key(Word::Subtype),
+        Key(Word::Constant),
+        Key(Word::Signal),
+        Key(Word::Function),
+        Key(Word::Pure),
+        Key(Word::Attribute),
+        Key(Word::Use),
+        Key(Word::Component),
+        Key(Word::Begin),
+    ],
+    Take::Look,
+    &[
+        Make(Form::Empty),
+        Many(Place::Declaration),
+        Skip(Key(Word::Begin)),
+    ],
+)];
 
 pub const GENERATE_DECLARATIONS_ELSE: [Step; 1] = [Make(Form::Empty)];
 

@@ -425,8 +425,12 @@ pub const ARRAY_INDEX_BEHIND_MARK: [Alternative; 2] = [
     ),
     (
         &[Key(Word::Range)],
-        Take::Skip,
-        &[Make(Form::Mark), Call(Place::ArrayIndexBehindRange)],
+        Take::Look,
+        &[
+            Make(Form::Mark),
+            Skip(Key(Word::Range)),
+            Call(Place::ArrayIndexBehindRange),
+        ],
     ),
 ];
 

@@ -452,14 +452,15 @@ pub const PARENTHESIS: [Alternative; 1] = [(
 pub const PARENTHESIS_ELSE: [Step; 2] = [Call(Place::Expression), Call(Place::BehindFirst)];
 
 /// Behind the first expression in parentheses.
-pub const BEHIND_FIRST: [Alternative; 5] = [
+pub const BEHIND_FIRST: [Alternative; 4] = [
     (&[Mark(Sign::Close)], Take::Skip, &[Make(Form::Parentheses)]),
     (
         &[Mark(Sign::Comma)],
-        Take::Skip,
+        Take::Look,
         &[
             Make(Form::Element),
             Make(Form::One),
+            Skip(Mark(Sign::Comma)),
             Call(Place::Element),
             Make(Form::Add),
             Call(Place::MoreElements),
@@ -483,30 +484,13 @@ pub const BEHIND_FIRST: [Alternative; 5] = [
         ],
     ),
     (
-        &[Mark(Sign::Bar)],
-        Take::Skip,
+        &[Mark(Sign::Bar), Mark(Sign::Arrow)],
+        Take::Look,
         &[
             Make(Form::Only),
             Make(Form::Single),
             Make(Form::One),
-            Call(Place::Choice),
-            Make(Form::Add),
             Call(Place::BehindChoices),
-            Make(Form::One),
-            Call(Place::MoreElements),
-            Skip(Mark(Sign::Close)),
-            Make(Form::Aggregate),
-        ],
-    ),
-    (
-        &[Mark(Sign::Arrow)],
-        Take::Skip,
-        &[
-            Make(Form::Only),
-            Make(Form::Single),
-            Make(Form::One),
-            Call(Place::Expression),
-            Make(Form::BoundElement),
             Make(Form::One),
             Call(Place::MoreElements),
             Skip(Mark(Sign::Close)),
@@ -535,13 +519,14 @@ pub const AGGREGATE_ELEMENTS_ELSE: [Step; 2] = [
     Call(Place::BehindFirstElement),
 ];
 
-pub const BEHIND_FIRST_ELEMENT: [Alternative; 4] = [
+pub const BEHIND_FIRST_ELEMENT: [Alternative; 3] = [
     (
         &[Mark(Sign::Comma)],
-        Take::Skip,
+        Take::Look,
         &[
             Make(Form::Element),
             Make(Form::One),
+            Skip(Mark(Sign::Comma)),
             Call(Place::Element),
             Make(Form::Add),
             Call(Place::MoreElements),
@@ -565,30 +550,13 @@ pub const BEHIND_FIRST_ELEMENT: [Alternative; 4] = [
         ],
     ),
     (
-        &[Mark(Sign::Bar)],
-        Take::Skip,
+        &[Mark(Sign::Bar), Mark(Sign::Arrow)],
+        Take::Look,
         &[
             Make(Form::Only),
             Make(Form::Single),
             Make(Form::One),
-            Call(Place::Choice),
-            Make(Form::Add),
             Call(Place::BehindChoices),
-            Make(Form::One),
-            Call(Place::MoreElements),
-            Skip(Mark(Sign::Close)),
-            Make(Form::Aggregate),
-        ],
-    ),
-    (
-        &[Mark(Sign::Arrow)],
-        Take::Skip,
-        &[
-            Make(Form::Only),
-            Make(Form::Single),
-            Make(Form::One),
-            Call(Place::Expression),
-            Make(Form::BoundElement),
             Make(Form::One),
             Call(Place::MoreElements),
             Skip(Mark(Sign::Close)),
@@ -621,7 +589,7 @@ pub const ELEMENT: [Alternative; 1] = [(
 pub const ELEMENT_ELSE: [Step; 2] = [Call(Place::Expression), Call(Place::BehindElement)];
 
 /// Behind an expression that is an element or its first choice.
-pub const BEHIND_ELEMENT: [Alternative; 3] = [
+pub const BEHIND_ELEMENT: [Alternative; 2] = [
     (
         &[Key(Word::To), Key(Word::Downto)],
         Take::Keep,
@@ -634,26 +602,13 @@ pub const BEHIND_ELEMENT: [Alternative; 3] = [
         ],
     ),
     (
-        &[Mark(Sign::Bar)],
-        Take::Skip,
+        &[Mark(Sign::Bar), Mark(Sign::Arrow)],
+        Take::Look,
         &[
             Make(Form::Only),
             Make(Form::Single),
             Make(Form::One),
-            Call(Place::Choice),
-            Make(Form::Add),
             Call(Place::BehindChoices),
-        ],
-    ),
-    (
-        &[Mark(Sign::Arrow)],
-        Take::Skip,
-        &[
-            Make(Form::Only),
-            Make(Form::Single),
-            Make(Form::One),
-            Call(Place::Expression),
-            Make(Form::BoundElement),
         ],
     ),
 ];

@@ -57,8 +57,13 @@ pub const DISCRETE_RANGE_BEHIND_MARK: [Alternative; 2] = [
     ),
     (
         &[Key(Word::Range)],
-        Take::Skip,
-        &[Make(Form::Mark), Call(Place::Range), Make(Form::MarkRange)],
+        Take::Look,
+        &[
+            Make(Form::Mark),
+            Skip(Key(Word::Range)),
+            Call(Place::Range),
+            Make(Form::MarkRange),
+        ],
     ),
 ];
 

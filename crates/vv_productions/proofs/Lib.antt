@@ -1,0 +1,14 @@
+pub mod Equal
+pub mod Among
+pub mod Traces
+pub mod Whole
+pub mod Meanings
+pub mod Steps
+pub mod Check
+pub mod Checked
+pub mod Admitted
+pub mod Covered
+pub mod Sound
+pub mod OneCode
+pub mod Complete
+pub mod Main
