@@ -1,5 +1,5 @@
 -- What has been gone through goes on by a move that was made.
-use Rattle.std.proofs.Common.{◌≡◌, [], ℕ, suc, ◌+◌, ◌-◌, ◌<◌, sym, arith, List, ◌++◌}
+use Rattle.std.proofs.Common.{◌≡◌, ◌∙◌, [], ℕ, suc, ◌+◌, ◌-◌, ◌<◌, refl, sym, arith, List, ◌++◌}
 use Rattle.vv_grammar.specs.declared.terminal.Terminal.{Terminal}
 use Rattle.vv_grammar.specs.declared.edition.Edition.{Edition}
 use Rattle.vv_grammar.specs.declared.machine.State.{State}
@@ -7,6 +7,7 @@ use Rattle.vv_grammar.specs.declared.machine.Stop.{Stop}
 use Rattle.vv_grammar.specs.declared.machine.Stop.TheVariants as stop
 use Rattle.vv_grammar.specs.declared.stack.Pending.{Pending}
 use Rattle.vv_grammar.specs.declared.event.Event.{Event}
+use Rattle.vv_grammar.proofs.Weights.{measure, Falls, falls, driven_on}
 use Rattle.vv_grammar.specs.Machine.{Outcome, reads, misplaced, too_deep, drive, IsOutcome, Move, goes, stuck, deep, over, Leads, further, Moved, move, IsStop, Stops}
 
 pub moved : (e : Edition) (ts : List Terminal) (K L : List Pending) (a : ℕ) (old new : State) (m : Move)
@@ -51,6 +52,18 @@ pub over_reads : (m : ℕ) (e : Edition) (ts : List Terminal) (L : List Pending)
 unfolding drive
 over_reads m e ts L at es o d is = let far : reads es at ≡ o = rw is at d in sym far
 
--- one of the moves that are left
-pub one_more : (n k : ℕ) → k < n → n - k ≡ suc (n - (k + 1))
-one_more n k h = omega (arith, h)
+-- a move that was made led to a state that weighs less
+pub fell : (e : Edition) (ts : List Terminal) (L : List Pending) (old new : State) (v : Move)
+    → Falls e ts (measure e ts L old.at) v → Moved old new v → measure e ts new.stack new.at < measure e ts L old.at
+fell e ts L old new (goes es M c) f h = rw (h.0, h.1) f
+fell e ts L old new stuck f h = absurd h
+fell e ts L old new (deep n) f h = absurd h
+fell e ts L old new over f h = absurd h
+
+pub drives_on : (e : Edition) (ts : List Terminal) (L : List Pending) (old new : State) (o : Outcome)
+    → drive (suc (measure e ts L old.at)) e ts L old.at old.events.items ≡ o → Moved old new (move e ts L old.at)
+    → drive (suc (measure e ts new.stack new.at)) e ts new.stack new.at new.events.items ≡ o
+drives_on e ts L old new o d h =
+    let f : measure e ts new.stack new.at < measure e ts L old.at = fell e ts L old new (move e ts L old.at) (falls e ts L old.at) h in
+    driven_on (suc (measure e ts new.stack new.at)) (measure e ts L old.at) e ts new.stack new.at new.events.items (omega arith) f
+    ∙ drives (measure e ts L old.at) e ts L old new (move e ts L old.at) o d refl h

@@ -1,5 +1,5 @@
 -- The grammar as a machine: what is still to come, and what becomes of it at the next token.
-use Rattle.std.specs.Prelude.{◌≡◌, ℕ, zero, suc, nat_eq, ◌+◌, ◌-◌, if◌then◌else◌, List, [], ◌∷◌, ◌++◌, map, Option, Some, None, option_map, slice_get}
+use Rattle.std.specs.Prelude.{◌≡◌, ℕ, zero, suc, nat_eq, ◌+◌, ◌-◌, ◌*◌, Bool, true, false, length, if◌then◌else◌, List, [], ◌∷◌, ◌++◌, map, Option, Some, None, option_map, slice_get}
 use Rattle.vv_grammar.specs.declared.edition.Edition.{Edition}
 use Rattle.vv_grammar.specs.declared.event.Event.{Event}
 use Rattle.vv_grammar.specs.declared.event.Event.TheVariants as event
@@ -38,6 +38,17 @@ choose (c ∷ more) t = if contains c.on t then Some (turn c.take c.steps) else 
 abbrev pub chosen : Edition → Place → Option Terminal → Option Turn
 chosen e p None = None
 chosen e p (Some t) = choose (alternatives e p) t
+
+-- whether the token that chooses an alternative is taken
+abbrev pub takes : Take → Bool
+takes take.Keep = true
+takes take.Skip = true
+takes take.Look = false
+
+-- a list goes on only by a turn that takes a token
+abbrev pub as_part : Option Turn → Option Turn
+as_part None = None
+as_part (Some t) = if takes t.take then Some t else None
 
 -- What one step makes of a state.
 pub data Move : Type 0 where
@@ -113,7 +124,7 @@ token e wanted (Some found) at K = if same wanted found then goes (e ∷ []) K (
 
 abbrev pub move_of : Edition → Option Terminal → Step → Pending → ℕ → List Pending → Move
 move_of e t (step.Call p) o at K = called (chosen e p t) (otherwise p) p o at K
-move_of e t (step.Many p) o at K = repeated (chosen e p t) p o at K
+move_of e t (step.Many p) o at K = repeated (as_part (chosen e p t)) p o at K
 move_of e t (step.Skip w) o at K = token event.Skip w t at K
 move_of e t (step.Keep w) o at K = token event.Keep w t at K
 move_of e t (step.Make f) o at K = goes (event.Make f ∷ []) K at
@@ -131,8 +142,6 @@ pub data Outcome : Type 0 where
   misplaced : ℕ → Outcome
   -- what starts at this token is too deep
   too_deep : ℕ → Outcome
-  -- more moves than these are not made
-  unfinished : Outcome
 
 abbrev pub going : (List Pending → ℕ → List Event → Outcome) → List Event → ℕ → Move → Outcome
 going on es at (goes fs L b) = on L b (es ++ fs)
@@ -140,16 +149,20 @@ going on es at stuck = misplaced at
 going on es at (deep n) = too_deep n
 going on es at over = reads es at
 
--- by so many moves at most, when these events have happened
+-- by fewer moves than so many, when these events have happened
 unfoldable pub drive : ℕ → Edition → List Terminal → List Pending → ℕ → List Event → Outcome
-drive zero e ts K at es = unfinished
+drive zero e ts K at es = misplaced at
 drive (suc n) e ts K at es = going (λ L b fs. drive n e ts L b fs) es at (move e ts K at)
 
-abbrev pub most_moves : ℕ
-most_moves = 18446744073709551615
+-- Enough, whatever the tokens: a token or a step sets off fewer than 64 moves before the next token is taken.
+abbrev pub enough : List Terminal → List Pending → ℕ
+enough ts K = suc (64 * (length ts + length K))
+
+abbrev pub outcome_behind : Edition → List Terminal → List Pending → ℕ → List Event → Outcome
+outcome_behind e ts K at es = drive (enough ts K) e ts K at es
 
 abbrev pub outcome : Edition → List Terminal → List Pending → ℕ → Outcome
-outcome e ts K at = drive most_moves e ts K at []
+outcome e ts K at = outcome_behind e ts K at []
 
 -- From one state the machine comes to another, and these events happen.
 pub data Leads : Edition → List Terminal → List Pending → ℕ → List Event → List Pending → ℕ → Type 0 where

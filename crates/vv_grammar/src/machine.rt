@@ -13,7 +13,7 @@ use crate::stack::{Pending, Stack};
 use crate::step::{Alternative, Level, Step, Take, Turn};
 use crate::terminal::{Terminal, is_among, is_same};
 use std::alloc::{AllocError, AllocFailed, Global};
-use vv_base::fault::{Memory, cannot_come};
+use vv_base::fault::Memory;
 
 /// Why the machine stopped before all was read.
 #[derive(Clone, Copy, Debug, PartialEq, Eq)]
@@ -253,6 +253,19 @@ fn call(
     }
 }
 
+/// The turn by which a list of what a place admits goes on at the next token: one that takes it.
+fn part(edition: Edition, place: Place, tokens: &[Terminal], at: usize) -> Option<Turn>
+    ensures turn { option_map (λ t. spec.turn t.0 t.1.now) result ≡ spec.as_part (spec.chosen edition place (spec.next_terminal tokens.now at)) }
+    ensures within { IfSome result (λ t. at < length tokens.now) }
+{
+    let turn = chosen(edition, place, tokens, at)?;
+    match turn.0 {
+        Take::Keep => Some(turn),
+        Take::Skip => Some(turn),
+        Take::Look => None,
+    }
+}
+
 /// What a place admits at the next token once more, or nothing.
 fn repeat(
     edition: Edition,
@@ -261,10 +274,10 @@ fn repeat(
     place: Place,
     pending: Pending,
 ) -> Result<(), Stop>
-    ensures ok { OnOk result (spec.Moved state.old state.new (spec.repeated (spec.chosen edition place (spec.next_terminal tokens.now state.old.at)) place pending state.old.at state.old.stack)) }
-    ensures err { IfErr result (λ s. spec.IsStop s state.old.at (spec.repeated (spec.chosen edition place (spec.next_terminal tokens.now state.old.at)) place pending state.old.at state.old.stack)) }
+    ensures ok { OnOk result (spec.Moved state.old state.new (spec.repeated (spec.as_part (spec.chosen edition place (spec.next_terminal tokens.now state.old.at))) place pending state.old.at state.old.stack)) }
+    ensures err { IfErr result (λ s. spec.IsStop s state.old.at (spec.repeated (spec.as_part (spec.chosen edition place (spec.next_terminal tokens.now state.old.at))) place pending state.old.at state.old.stack)) }
 {
-    match chosen(edition, place, tokens, state.at) {
+    match part(edition, place, tokens, state.at) {
         Some(turn) => {
             state.stack.push(pending)?;
             state.stack.push(Pending {
@@ -332,14 +345,11 @@ pub fn run(
     ensures halts { IfErr result (λ s. spec.Stops edition tokens.now (spec.starting_with steps.now at) at s) }
 {
     let mut state = begin(alloc, steps, at)?;
-    'moves: for _ in 0..u64::MAX {
-        let Some(pending) = state.stack.pop() else {
-            return Ok(Reading {
-                events: state.events,
-                at: state.at,
-            });
-        };
+    'moves: while let Some(pending) = state.stack.pop() {
         advance(edition, tokens, &mut state, pending)?;
     }
-    Err(Stop::from(cannot_come()))
+    Ok(Reading {
+        events: state.events,
+        at: state.at,
+    })
 }

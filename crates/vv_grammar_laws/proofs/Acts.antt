@@ -1,5 +1,5 @@
 -- What a step of the machine was, and that a derivation goes back over it.
-use Rattle.std.proofs.Common.{◌≡◌, Bool, true, false, if◌then◌else◌, List, [], ◌∷◌, ◌++◌, Option, Some, None, refl, ap, subst}
+use Rattle.std.proofs.Common.{◌≡◌, Bool, true, false, if◌then◌else◌, List, [], ◌∷◌, ◌++◌, Option, Some, None, refl, ap, ◌∙◌, subst}
 use Rattle.vv_grammar.specs.declared.edition.Edition.{Edition}
 use Rattle.vv_grammar.specs.declared.event.Event.{Event}
 use Rattle.vv_grammar.specs.declared.event.Event.TheVariants as event
@@ -13,9 +13,9 @@ use Rattle.vv_grammar.specs.declared.step.Take.TheVariants as take
 use Rattle.vv_grammar.specs.declared.terminal.Terminal.{Terminal}
 use Rattle.vv_grammar.specs.Terminals.{same, contains}
 use Rattle.vv_grammar.specs.Table.{Choice, alternatives, otherwise}
-use Rattle.vv_grammar.specs.Machine.{Turn, turn, choose, chosen}
+use Rattle.vv_grammar.specs.Machine.{Turn, turn, choose, chosen, takes, as_part}
 use Rattle.vv_grammar_laws.specs.Derivations.{IsAmong, first as here, later, left, noted, Derives, make, skip, keep, call, pass, stop, more}
-use Rattle.vv_grammar_laws.proofs.Plain.{Act, goes, stuck, over, takes, turned, called, repeated, act, head, behind}
+use Rattle.vv_grammar_laws.proofs.Plain.{Act, goes, stuck, over, turned, called, repeated, act, head, behind}
 
 pub data Acts (e : Edition) : List Step → Option Terminal → List Event → List Step → Bool → Type 0 where
   made : (f : Form) (K : List Step) (h : Option Terminal) → Acts e (step.Make f ∷ K) h (event.Make f ∷ []) K false
@@ -25,7 +25,7 @@ pub data Acts (e : Edition) : List Step → Option Terminal → List Event → L
       → Acts e (step.Call p ∷ K) (Some t) (noted c.take) (c.steps ++ K) (takes c.take)
   passed : (p : Place) (ss K : List Step) (h : Option Terminal) → otherwise p ≡ Some ss → chosen e p h ≡ None → Acts e (step.Call p ∷ K) h [] (ss ++ K) false
   stopped : (p : Place) (K : List Step) (h : Option Terminal) → Acts e (step.Many p ∷ K) h [] K false
-  again : (p : Place) (c : Choice) (t : Terminal) (K : List Step) → IsAmong c (alternatives e p) → contains c.on t ≡ true
+  again : (p : Place) (c : Choice) (t : Terminal) (K : List Step) → IsAmong c (alternatives e p) → contains c.on t ≡ true → takes c.take ≡ true
       → Acts e (step.Many p ∷ K) (Some t) (noted c.take) (c.steps ++ (step.Make form.Add ∷ step.Many p ∷ K)) (takes c.take)
 
 abbrev pub Did : Edition → List Step → Option Terminal → Act → Type 0
@@ -72,16 +72,23 @@ call-acts e p K (Some t) (Some r) o c k =
     subst (λ (x : Turn). Did e (step.Call p ∷ K) (Some t) (turned x K)) i.is (chose p i.choice t K i.among i.has)
 
 many-acts : (e : Edition) (p : Place) (K : List Step) (h : Option Terminal) (r : Option Turn)
-    → chosen e p h ≡ r → Did e (step.Many p ∷ K) h (repeated r p K)
+    → chosen e p h ≡ r → Did e (step.Many p ∷ K) h (repeated (as_part r) p K)
 many-acts e p K h None c = stopped p K h
 many-acts e p K None (Some r) c = absurd (subst (λ (x : Option Turn). IsNone x) c tt)
   where
     IsNone : Option Turn → Type 0
     IsNone None = Unit {0}
     IsNone (Some r) = ⊥
-many-acts e p K (Some t) (Some r) c =
-    let i : IsTurn (alternatives e p) t r = subst (Chosen (alternatives e p) t) c (chosen-turn (alternatives e p) t) in
-    subst (λ (x : Turn). Did e (step.Many p ∷ K) (Some t) (turned x (step.Make form.Add ∷ step.Many p ∷ K))) i.is (again p i.choice t K i.among i.has)
+many-acts e p K (Some t) (Some r) c = go (takes r.take) refl
+  where
+    i : IsTurn (alternatives e p) t r
+    i = subst (Chosen (alternatives e p) t) c (chosen-turn (alternatives e p) t)
+
+    go : (b : Bool) → takes r.take ≡ b → Did e (step.Many p ∷ K) (Some t) (repeated (if b then Some r else None) p K)
+    go false k = stopped p K (Some t)
+    go true k =
+        subst (λ (x : Turn). Did e (step.Many p ∷ K) (Some t) (turned x (step.Make form.Add ∷ step.Many p ∷ K))) i.is
+        (again p i.choice t K i.among i.has (ap (λ (x : Turn). takes x.take) i.is ∙ k))
 
 pub acted : (e : Edition) (K : List Step) (h : Option Terminal) → Did e K h (act e K h)
 acted e [] h = tt
@@ -130,6 +137,6 @@ back e _ _ _ _ fs _ (x ∷ v) (chose p c t K a y) s d =
     call p c x K v fs a (subst (λ (z : Terminal). contains c.on z ≡ true) (ap (the_one t) s) y) (subst (λ (z : List Terminal). Derives e (c.steps ++ K) z fs) (behind-left c.take x v) d)
 back e _ _ _ _ fs _ v (passed p ss K h o n) s d = pass p ss K v fs o d
 back e _ _ _ _ fs _ v (stopped p K h) s d = stop p K v fs d
-back e _ _ _ _ fs _ [] (again p c t K a y) s d = absurd (subst HasHead s tt)
-back e _ _ _ _ fs _ (x ∷ v) (again p c t K a y) s d =
-    more p c x K v fs a (subst (λ (z : Terminal). contains c.on z ≡ true) (ap (the_one t) s) y) (subst (λ (z : List Terminal). Derives e (c.steps ++ (step.Make form.Add ∷ step.Many p ∷ K)) z fs) (behind-left c.take x v) d)
+back e _ _ _ _ fs _ [] (again p c t K a y k) s d = absurd (subst HasHead s tt)
+back e _ _ _ _ fs _ (x ∷ v) (again p c t K a y k) s d =
+    more p c x K v fs a (subst (λ (z : Terminal). contains c.on z ≡ true) (ap (the_one t) s) y) k (subst (λ (z : List Terminal). Derives e (c.steps ++ (step.Make form.Add ∷ step.Many p ∷ K)) z fs) (behind-left c.take x v) d)

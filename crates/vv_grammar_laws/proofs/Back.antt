@@ -15,7 +15,7 @@ use Rattle.vv_grammar.specs.declared.terminal.Terminal.{Terminal}
 use Rattle.vv_grammar.specs.Terminals.{same, contains}
 use Rattle.vv_grammar.specs.Table.{Choice, alternatives, otherwise, level_of}
 use Rattle.vv_grammar.specs.Machine as machine
-use Rattle.vv_grammar.specs.Machine.{Turn, turn, chosen, next_terminal, inside, starting, as_step, begun, steps_in}
+use Rattle.vv_grammar.specs.Machine.{Turn, turn, takes, as_part, chosen, next_terminal, inside, starting, as_step, begun, steps_in}
 use Rattle.vv_grammar_laws.specs.Derivations.{IsAmong, left, noted, Derives, make, skip, keep, call, pass, stop, more}
 use Rattle.vv_grammar_laws.proofs.Plain.{head}
 use Rattle.vv_grammar_laws.proofs.Acts.{IsTurn, Chosen, chosen-turn}
@@ -123,11 +123,11 @@ entering-returns e ts l c base o K at wrap t n y None h = tt
 entering-returns e ts l c base o K at wrap t n y (Some i) h = taking-returns e ts l c base o i K at wrap h.0 h.1 t n y c.take refl
 
 turning-returns : (e : Edition) (ts : List Terminal) (p : Place) (base : List Pending) (o : Pending) (K : List Pending) (at : ℕ) → Few o
-    → ((c : Choice) → IsAmong c (alternatives e p) → Wrap e (level_of p) c base o K at)
-    → (t : Terminal) → next_terminal ts at ≡ Some t → (r : Turn) → IsTurn (alternatives e p) t r → Returns e ts (o ∷ K) at (machine.turning p r o at base)
-turning-returns e ts p base o K at f wrap t n r i =
+    → (r : Turn) → ((c : Choice) → IsAmong c (alternatives e p) → turn c.take c.steps ≡ r → Wrap e (level_of p) c base o K at)
+    → (t : Terminal) → next_terminal ts at ≡ Some t → IsTurn (alternatives e p) t r → Returns e ts (o ∷ K) at (machine.turning p r o at base)
+turning-returns e ts p base o K at f r wrap t n i =
     subst (λ (x : Turn). Returns e ts (o ∷ K) at (machine.turning p x o at base)) i.is
-    (entering-returns e ts (level_of p) i.choice base o K at (wrap i.choice i.among) t n i.has (inside (level_of p) o) (entry (level_of p) o at f))
+    (entering-returns e ts (level_of p) i.choice base o K at (wrap i.choice i.among i.is) t n i.has (inside (level_of p) o) (entry (level_of p) o at f))
 
 -- at the next token a turn is chosen or not
 abbrev At : Edition → List Terminal → Place → ℕ → Option Turn → Type 0
@@ -148,20 +148,20 @@ call-wraps e p o K at h c among t w es y d =
     (call p c t (bare K) w es among y d) (seen o ∷ seen_all K) at in
     (s.0, sym s.1)
 
-many-wraps : (e : Edition) (p : Place) (o : Pending) (K : List Pending) (at : ℕ) → o.step ≡ step.Many p → (c : Choice) → IsAmong c (alternatives e p)
+many-wraps : (e : Edition) (p : Place) (o : Pending) (K : List Pending) (at : ℕ) → o.step ≡ step.Many p → (c : Choice) → IsAmong c (alternatives e p) → takes c.take ≡ true
     → Wrap e (level_of p) c (as_step o (step.Make form.Add) ∷ (o ∷ K)) o K at
-many-wraps e p o K at h c among t w es y d =
+many-wraps e p o K at h c among k t w es y d =
     let T = step.Make form.Add ∷ (step.Many p ∷ bare K) in
     let F = steps_in c.steps (behind_choice c.take (entered (level_of p) (seen o)) at) ++ seen_all (as_step o (step.Make form.Add) ∷ (o ∷ K)) in
     let q = same_derivation e (c.steps ++ (step.Make form.Add ∷ (o.step ∷ bare K))) (c.steps ++ T) (left c.take t w) (left c.take t w) es
     (ap (λ (s : Step). c.steps ++ (step.Make form.Add ∷ (s ∷ bare K))) h) refl d F (next_at c.take at) in
     let s = same_derivation e (step.Many p ∷ bare K) (o.step ∷ bare K) (t ∷ w) (t ∷ w) (noted c.take ++ es) (ap (λ (s : Step). s ∷ bare K) (sym h)) refl
-    (more p c t (bare K) w es among y q.0) (seen o ∷ seen_all K) at in
+    (more p c t (bare K) w es among y k q.0) (seen o ∷ seen_all K) at in
     (s.0, sym s.1 ∙ ap (λ (z : List Opening). opening (level_of p) (seen o) at ++ z) (sym q.1))
 
 call-returns : (e : Edition) (ts : List Terminal) (p : Place) (o : Pending) (K : List Pending) (at : ℕ) → Few o → o.step ≡ step.Call p
     → (r : Option Turn) → chosen e p (next_terminal ts at) ≡ r → At e ts p at r → (z : Option (List Step)) → otherwise p ≡ z → Returns e ts (o ∷ K) at (machine.called r z p o at K)
-call-returns e ts p o K at f h (Some r) j a z k = turning-returns e ts p K o K at f (call-wraps e p o K at h) a.0 a.1 r a.2
+call-returns e ts p o K at f h (Some r) j a z k = turning-returns e ts p K o K at f r (λ c m i. call-wraps e p o K at h c m) a.0 a.1 a.2
 call-returns e ts p o K at f h None j a None k = tt
 call-returns e ts p o K at f h None j a (Some ss) k = λ w es d look.
     let M = steps_in ss o ++ K in
@@ -180,12 +180,20 @@ call-returns e ts p o K at f h None j a (Some ss) k = λ w es d look.
       told = sym s.1 ∙ ap (λ (F : List Pending). openings e (ss ++ bare K) w es q.0 F at) (sym (seen-steps ss o K)) ∙ sym q.1;
     }
 
-many-returns : (e : Edition) (ts : List Terminal) (p : Place) (o : Pending) (K : List Pending) (at : ℕ) → Few o → o.step ≡ step.Many p
-    → (r : Option Turn) → At e ts p at r → Returns e ts (o ∷ K) at (machine.repeated r p o at K)
-many-returns e ts p o K at f h (Some r) a = turning-returns e ts p (as_step o (step.Make form.Add) ∷ (o ∷ K)) o K at f (many-wraps e p o K at h) a.0 a.1 r a.2
-many-returns e ts p o K at f h None a = λ w es d look.
+none-returns : (e : Edition) (ts : List Terminal) (p : Place) (o : Pending) (K : List Pending) (at : ℕ) → o.step ≡ step.Many p → Returns e ts (o ∷ K) at (machine.repeated None p o at K)
+none-returns e ts p o K at h w es d look =
     let s = same_derivation e (step.Many p ∷ bare K) (o.step ∷ bare K) w w es (ap (λ (s : Step). s ∷ bare K) (sym h)) refl (stop p (bare K) w es d) (seen o ∷ seen_all K) at in
     record { taken = false; next = refl; tokens = w; front = refl; events = es; derives = s.0; before = []; shallow = tt; told = sym s.1 }
+
+many-returns : (e : Edition) (ts : List Terminal) (p : Place) (o : Pending) (K : List Pending) (at : ℕ) → Few o → o.step ≡ step.Many p
+    → (r : Option Turn) → At e ts p at r → Returns e ts (o ∷ K) at (machine.repeated (as_part r) p o at K)
+many-returns e ts p o K at f h (Some r) a = go (takes r.take) refl
+  where
+    go : (b : Bool) → takes r.take ≡ b → Returns e ts (o ∷ K) at (machine.repeated (if b then Some r else None) p o at K)
+    go false k = none-returns e ts p o K at h
+    go true k = turning-returns e ts p (as_step o (step.Make form.Add) ∷ (o ∷ K)) o K at f r
+        (λ c m i. many-wraps e p o K at h c m (ap (λ (x : Turn). takes x.take) i ∙ k)) a.0 a.1 a.2
+many-returns e ts p o K at f h None a = none-returns e ts p o K at h
 
 skip-returns : (e : Edition) (ts : List Terminal) (x : Terminal) (o : Pending) (K : List Pending) (at : ℕ) → o.step ≡ step.Skip x
     → (n : Option Terminal) → next_terminal ts at ≡ n → Returns e ts (o ∷ K) at (machine.token event.Skip x n at K)

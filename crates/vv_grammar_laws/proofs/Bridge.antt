@@ -48,7 +48,7 @@ Agrees (machine.deep n) x at = Unit {0}
 Agrees machine.over x at = x ≡ plain.over
 
 taking-agrees : (k : Take) (at : ℕ) (ss : List Step) (o : Pending) (K : List Pending)
-    → Agrees (machine.taking k at ss o K) (plain.goes (noted k) (ss ++ bare K) (plain.takes k)) at
+    → Agrees (machine.taking k at ss o K) (plain.goes (noted k) (ss ++ bare K) (machine.takes k)) at
 taking-agrees take.Keep at ss o K = (true, ap (λ (x : List Step). plain.goes (event.Keep ∷ []) x true) (sym (bare-steps ss (begun o at) K)), refl)
 taking-agrees take.Skip at ss o K = (true, ap (λ (x : List Step). plain.goes (event.Skip ∷ []) x true) (sym (bare-steps ss (begun o at) K)), refl)
 taking-agrees take.Look at ss o K = (false, ap (λ (x : List Step). plain.goes [] x false) (sym (bare-steps ss o K)), refl)
@@ -81,7 +81,7 @@ token-agrees f w (Some t) at K = go (same w t)
 step-agrees : (e : Edition) (t : Option Terminal) (s : Step) (o : Pending) (at : ℕ) (K : List Pending) → o.step ≡ s
     → Agrees (machine.move_of e t s o at K) (act_of e s t (bare K)) at
 step-agrees e t (step.Call p) o at K h = called-agrees (chosen e p t) (otherwise p) p o at K
-step-agrees e t (step.Many p) o at K h = repeated-agrees (chosen e p t) p o at K h
+step-agrees e t (step.Many p) o at K h = repeated-agrees (machine.as_part (chosen e p t)) p o at K h
 step-agrees e t (step.Skip w) o at K h = token-agrees event.Skip w t at K
 step-agrees e t (step.Keep w) o at K h = token-agrees event.Keep w t at K
 step-agrees e t (step.Make f) o at K h = (false, refl, refl)
@@ -116,7 +116,7 @@ needs-head e _ _ _ _ _ (kept w t K y) x = tt
 needs-head e _ _ _ _ _ (chose p c t K a y) x = tt
 needs-head e _ _ _ _ _ (passed p ss K h o n) x = absurd x
 needs-head e _ _ _ _ _ (stopped p K h) x = absurd x
-needs-head e _ _ _ _ _ (again p c t K a y) x = tt
+needs-head e _ _ _ _ _ (again p c t K a y k) x = tt
 
 -- The machine's way is a way of the one without levels.
 pub record IsWay (e : Edition) (ts : List Terminal) (K : List Pending) (a : ℕ) (es : List Event) (L : List Pending) (b : ℕ) : Type 0 where

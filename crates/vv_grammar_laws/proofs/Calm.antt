@@ -19,7 +19,7 @@ use Rattle.vv_grammar.specs.declared.terminal.Terminal.{Terminal}
 use Rattle.vv_grammar.specs.Terminals.{same}
 use Rattle.vv_grammar.specs.Table.{Choice, alternatives, otherwise, level_of}
 use Rattle.vv_grammar.specs.Machine as machine
-use Rattle.vv_grammar.specs.Machine.{Turn, turn, choose, chosen, next_terminal, inside, starting, as_step, begun, steps_in, Leads, here, further}
+use Rattle.vv_grammar.specs.Machine.{Turn, takes, as_part, turn, choose, chosen, next_terminal, inside, starting, as_step, begun, steps_in, Leads, here, further}
 use Rattle.vv_grammar_laws.specs.Derivations.{IsAmong, first, later}
 use Rattle.vv_grammar_laws.proofs.Acts.{Chosen, chosen-turn}
 
@@ -277,6 +277,14 @@ turn-calm e p (Some t) = go (choose (alternatives e p) t) (chosen-turn (alternat
     go (Some r) h = subst (λ (x : Turn). calm_choice x.take x.steps ≡ true) h.is
         (among-calm h.choice (alternatives e p) h.among (and_parts (calm_choices (alternatives e p)) (calm_else (otherwise p)) (calm-place e p)).0)
 
+part-calm : (r : Option Turn) → Turns r → Turns (as_part r)
+part-calm None h = tt
+part-calm (Some r) h = go (takes r.take)
+  where
+    go : (b : Bool) → Turns (if b then Some r else None)
+    go false = tt
+    go true = h
+
 called-calms : (r : Option Turn) (z : Option (List Step)) (p : Place) (o : Pending) (at : ℕ) (K : List Pending) → Turns r → calm_else z ≡ true → Calm K → Calms at (machine.called r z p o at K)
 called-calms (Some r) z p o at K t h k = entering-calms (inside (level_of p) o) (starting (level_of p) o at) r at K t k
 called-calms None (Some ss) p o at K t h k = inr (refl, edge-steps ss o K h k)
@@ -297,7 +305,7 @@ token-calms f w (Some t) at K k = go (same w t)
 
 step-calms : (e : Edition) (t : Option Terminal) (s : Step) (o : Pending) (at : ℕ) (K : List Pending) → o.step ≡ s → IsEdge s → Calm K → Calms at (machine.move_of e t s o at K)
 step-calms e t (step.Call p) o at K h i k = called-calms (chosen e p t) (otherwise p) p o at K (turn-calm e p t) (and_parts (calm_choices (alternatives e p)) (calm_else (otherwise p)) (calm-place e p)).1 k
-step-calms e t (step.Many p) o at K h i k = repeated-calms (chosen e p t) p o at K (turn-calm e p t) (ap is_calm h ∙ i) k
+step-calms e t (step.Many p) o at K h i k = repeated-calms (as_part (chosen e p t)) p o at K (part-calm (chosen e p t) (turn-calm e p t)) (ap is_calm h ∙ i) k
 step-calms e t (step.Skip w) o at K h i k = token-calms event.Skip w t at K k
 step-calms e t (step.Keep w) o at K h i k = token-calms event.Keep w t at K k
 step-calms e t (step.Make f) o at K h i k = inr (refl, calm-behind K k)

@@ -182,4 +182,4 @@ starts e _ _ _ (keep w t K u es s d) = has-here (code w) (code t) [] (same-code 
 starts e _ _ _ (call p c t K u es a h d) = joined-first (empty p) (first p) (firsts K []) (code t) (turn-first e p c t a h)
 starts e _ _ _ (pass p ss K u es o d) = begins-mono u (firsts (ss ++ K) []) (firsts (step.Call p ∷ K) []) (else-within e p ss K o) (starts e (ss ++ K) u es d)
 starts e _ _ _ (stop p K u es d) = begins-mono u (firsts K []) (first p ++ firsts K []) (λ c h. has-right (first p) (firsts K []) c h) (starts e K u es d)
-starts e _ _ _ (more p c t K u es a h d) = has-left (first p) (firsts K []) (code t) (turn-first e p c t a h)
+starts e _ _ _ (more p c t K u es a h k d) = has-left (first p) (firsts K []) (code t) (turn-first e p c t a h)

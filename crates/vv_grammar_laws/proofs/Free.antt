@@ -191,7 +191,7 @@ no-openings e _ _ _ (pass p ss K u es x d) n [] at = refl
 no-openings e _ _ _ (pass p ss K u es x d) n (o ∷ F) at = no-openings e (ss ++ K) u es d n (steps_in ss o ++ F) at
 no-openings e _ _ _ (stop p K u es d) n [] at = refl
 no-openings e _ _ _ (stop p K u es d) n (o ∷ F) at = no-openings e K u es d n F at
-no-openings e _ _ _ (more p c t K u es a h d) n F at = absurd n
+no-openings e _ _ _ (more p c t K u es a h k d) n F at = absurd n
 
 none-deep : (n : ℕ) (xs : List Opening) → Shallow xs → IsTooDeepAt n xs → ⊥
 none-deep n [] s h = h

@@ -15,7 +15,7 @@ use Rattle.vv_grammar.specs.declared.step.Take.TheVariants as take
 use Rattle.vv_grammar.specs.declared.terminal.Terminal.{Terminal}
 use Rattle.vv_grammar.specs.Table.{Choice, otherwise, level_of}
 use Rattle.vv_grammar.specs.Machine as machine
-use Rattle.vv_grammar.specs.Machine.{Turn, turn, chosen, next_terminal, levels, fewer, with_expressions, with_statements, inside, starting, as_step, begun, steps_in}
+use Rattle.vv_grammar.specs.Machine.{Turn, turn, takes, as_part, chosen, next_terminal, levels, fewer, with_expressions, with_statements, inside, starting, as_step, begun, steps_in}
 use Rattle.vv_grammar_laws.specs.Derivations.{left, Derives, done, make, skip, keep, call, pass, stop, more}
 use Rattle.vv_grammar_laws.proofs.Sets.{follow}
 use Rattle.vv_grammar_laws.proofs.Followed.{Good, good-append, starts, is_else}
@@ -256,12 +256,13 @@ inverted e _ _ _ (pass p ss R u es x d) g ts o K at h n f =
 inverted e _ _ _ (stop p R u es d) g ts o K at h n f =
     let all = openings e R u es d (seen_all K) at in
     subst (λ (s : Step). Inverted e at u all (machine.move_of e (next_terminal ts at) s o at K)) (sym (ap (lead o.step) h))
-    (subst (λ (z : Option Turn). Inverted e at u all (machine.repeated z p o at K)) (sym (stop-chosen e p R u g.1 (starts e R u es d)) ∙ ap (chosen e p) n)
+    (subst (λ (z : Option Turn). Inverted e at u all (machine.repeated (as_part z) p o at K)) (sym (stop-chosen e p R u g.1 (starts e R u es d)) ∙ ap (chosen e p) n)
     (record { taken = false; next = refl; steps = R; are = ap trail h; events = es; derives = d; before = []; shallow = tt; told = refl; few = f.1; good = g.2 }))
-inverted e _ _ _ (more p c t R u es a y d) g ts o K at h n f =
+inverted e _ _ _ (more p c t R u es a y k d) g ts o K at h n f =
     let base = as_step o (step.Make form.Add) ∷ (o ∷ K) in
-    let all = openings e (step.Many p ∷ R) (t ∷ u) _ (more p c t R u es a y d) (seen_all (o ∷ K)) at in
+    let all = openings e (step.Many p ∷ R) (t ∷ u) _ (more p c t R u es a y k d) (seen_all (o ∷ K)) at in
     subst (λ (s : Step). Inverted e at (t ∷ u) all (machine.move_of e (next_terminal ts at) s o at K)) (sym (ap (lead o.step) h))
-    (subst (λ (z : Option Turn). Inverted e at (t ∷ u) all (machine.repeated z p o at K)) (sym (turn-chosen e p c t a y) ∙ ap (chosen e p) n)
+    (subst (λ (z : Option Turn). Inverted e at (t ∷ u) all (machine.repeated (as_part z) p o at K)) (sym (turn-chosen e p c t a y) ∙ ap (chosen e p) n)
+    (subst (λ (b : Bool). Inverted e at (t ∷ u) all (machine.repeated (if b then Some (turn c.take c.steps) else None) p o at K)) (sym k)
     (entering-inverted e (level_of p) c (step.Make form.Add ∷ (step.Many p ∷ R)) t u es base o at (ap (λ (z : List Step). step.Make form.Add ∷ z) h) d
-    (call-good e p c (step.Make form.Add ∷ (step.Many p ∷ R)) a g.0 g) (f.0, f) (inside (level_of p) o) (entry (level_of p) o at f.0)))
+    (call-good e p c (step.Make form.Add ∷ (step.Many p ∷ R)) a g.0 g) (f.0, f) (inside (level_of p) o) (entry (level_of p) o at f.0))))

@@ -11,7 +11,7 @@ use Rattle.vv_grammar.specs.declared.step.Step.TheVariants as step
 use Rattle.vv_grammar.specs.declared.terminal.Terminal.{Terminal}
 use Rattle.vv_grammar.specs.Terminals.{same, contains}
 use Rattle.vv_grammar.specs.Table.{Choice, alternatives, otherwise}
-use Rattle.vv_grammar.specs.Machine.{Turn, turn, choose, chosen}
+use Rattle.vv_grammar.specs.Machine.{Turn, turn, choose, chosen, takes, as_part}
 use Rattle.vv_grammar.specs.declared.step.Take.{Take}
 use Rattle.vv_grammar.specs.declared.step.Take.TheVariants as take
 use Rattle.vv_grammar_laws.specs.Derivations.{IsAmong, first as here, later, left, noted, Derives, done, make, skip, keep, call, pass, stop, more}
@@ -26,11 +26,6 @@ pub data Act : Type 0 where
   goes : List Event → List Step → Bool → Act
   stuck : Act
   over : Act
-
-abbrev pub takes : Take → Bool
-takes take.Keep = true
-takes take.Skip = true
-takes take.Look = false
 
 abbrev pub turned : Turn → List Step → Act
 turned r K = goes (noted r.take) (r.steps ++ K) (takes r.take)
@@ -50,7 +45,7 @@ token f w (Some t) K = if same w t then goes (f ∷ []) K true else stuck
 
 abbrev pub act_of : Edition → Step → Option Terminal → List Step → Act
 act_of e (step.Call p) t K = called (chosen e p t) (otherwise p) K
-act_of e (step.Many p) t K = repeated (chosen e p t) p K
+act_of e (step.Many p) t K = repeated (as_part (chosen e p t)) p K
 act_of e (step.Skip w) t K = token event.Skip w t K
 act_of e (step.Keep w) t K = token event.Keep w t K
 act_of e (step.Make f) t K = goes (event.Make f ∷ []) K false
@@ -140,11 +135,11 @@ forward e _ _ _ (pass p ss K u es o d) g =
     (forward e (ss ++ K) u es d (good-append ss K (follow p) (is_else e p ss o).fit g.0 g.1))
 forward e _ _ _ (stop p K u es d) g =
     move (step.Many p ∷ K) K u false [] es
-    (ap (λ (r : Option Turn). repeated r p K) (stop-chosen e p K u g.1 (starts e K u es d)))
+    (ap (λ (r : Option Turn). repeated (as_part r) p K) (stop-chosen e p K u g.1 (starts e K u es d)))
     (forward e K u es d g.2)
-forward e _ _ _ (more p c t K u es a h d) g =
+forward e _ _ _ (more p c t K u es a h k d) g =
     move (step.Many p ∷ K) (c.steps ++ (step.Make form.Add ∷ step.Many p ∷ K)) (t ∷ u) (takes c.take) (noted c.take) es
-    (ap (λ (r : Option Turn). repeated r p K) (turn-chosen e p c t a h))
+    (ap (λ (r : Option Turn). repeated r p K) (ap as_part (turn-chosen e p c t a h) ∙ ap (λ (b : Bool). if b then Some (turn c.take c.steps) else None) k))
     (turn-runs e c t (c.steps ++ (step.Make form.Add ∷ step.Many p ∷ K)) u es (forward e (c.steps ++ (step.Make form.Add ∷ step.Many p ∷ K)) (left c.take t u) es d
     (call-good e p c (step.Make form.Add ∷ step.Many p ∷ K) a g.0 g)))
 

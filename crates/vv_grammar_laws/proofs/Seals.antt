@@ -17,7 +17,7 @@ use Rattle.vv_grammar_laws.specs.Derivations.{IsAmong, first as here, later, Der
 use Rattle.vv_grammar_laws.proofs.Sets.{empty}
 use Rattle.vv_grammar_laws.proofs.Check.{nulls}
 use Rattle.vv_grammar_laws.proofs.Followed.{is_else}
-use Rattle.vv_grammar_laws.proofs.Plain.{takes}
+use Rattle.vv_grammar.specs.Machine.{takes}
 use Rattle.vv_grammar_laws.proofs.Acts.{Acts, made, skipped, kept, chose, passed, stopped, again}
 
 abbrev pub is_closed : Place → Bool
@@ -265,7 +265,7 @@ closed-acts e _ _ _ _ _ (kept w t K y) c = c
 closed-acts e _ _ _ _ _ (chose p d t K a y) c = closed-append d.steps K (not (is_closed p)) (choice-seals e p d a).1 (opened (is_closed p) (nulls K) c.0) c.1
 closed-acts e _ _ _ _ _ (passed p ss K h o n) c = closed-append ss K (not (is_closed p)) (pass-seals e p ss o) (opened (is_closed p) (nulls K) c.0) c.1
 closed-acts e _ _ _ _ _ (stopped p K h) c = c.1
-closed-acts e _ _ _ _ _ (again p d t K a y) c =
+closed-acts e _ _ _ _ _ (again p d t K a y k) c =
     closed-append d.steps (step.Make form.Add ∷ step.Many p ∷ K) (not (is_closed p)) (choice-seals e p d a).1 (opened (is_closed p) (nulls K) (λ x z. c.0 x)) c
 
 abbrev pub IsEmpty : List Terminal → Type 0
@@ -287,7 +287,7 @@ nulled e _ _ _ (pass p ss K u es o d) n =
     let b = nulls-parts ss K (nulled e (ss ++ K) u es d n) in
     and_from (empty p) (nulls K) (implied (nulls ss) (empty p) (is_else e p ss o).nulled b.0) b.1
 nulled e _ _ _ (stop p K u es d) n = nulled e K u es d n
-nulled e _ _ _ (more p c t K u es a h d) n = absurd n
+nulled e _ _ _ (more p c t K u es a h k d) n = absurd n
 
 takes-looks : (k : Take) → takes k ≡ false → looks k ≡ true
 takes-looks take.Keep h = absurd (true≢false h)
@@ -305,6 +305,4 @@ back-end e _ _ _ _ fs _ (chose p k t K a y) s c d =
     absurd (c.0 (implied (looks k.take && nulls k.steps) (is_closed p) (choice-seals e p k a).0 (and_from (looks k.take) (nulls k.steps) (takes-looks k.take s) n.0)) n.1)
 back-end e _ _ _ _ fs _ (passed p ss K h o n) s c d = pass p ss K [] fs o d
 back-end e _ _ _ _ fs _ (stopped p K h) s c d = stop p K [] fs d
-back-end e _ _ _ _ fs _ (again p k t K a y) s c d =
-    let n = nulls-parts k.steps (step.Make form.Add ∷ step.Many p ∷ K) (nulled e (k.steps ++ (step.Make form.Add ∷ step.Many p ∷ K)) [] fs d tt) in
-    absurd (c.0 (implied (looks k.take && nulls k.steps) (is_closed p) (choice-seals e p k a).0 (and_from (looks k.take) (nulls k.steps) (takes-looks k.take s) n.0)))
+back-end e _ _ _ _ fs _ (again p k t K a y x) s c d = absurd (true≢false (sym x ∙ s))

@@ -119,7 +119,7 @@ token-fine f w (Some t) at K k = go (same w t)
 
 step-fine : (e : Edition) (t : Option Terminal) (s : Step) (o : Pending) (at : ℕ) (K : List Pending) → Stands o at → AllStand K at → Fine (machine.move_of e t s o at K) at
 step-fine e t (step.Call p) o at K h k = called-fine (chosen e p t) (otherwise p) p o at K h k
-step-fine e t (step.Many p) o at K h k = repeated-fine (chosen e p t) p o at K h k
+step-fine e t (step.Many p) o at K h k = repeated-fine (machine.as_part (chosen e p t)) p o at K h k
 step-fine e t (step.Skip w) o at K h k = token-fine event.Skip w t at K k
 step-fine e t (step.Keep w) o at K h k = token-fine event.Keep w t at K k
 step-fine e t (step.Make f) o at K h k = k

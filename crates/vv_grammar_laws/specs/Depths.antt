@@ -63,8 +63,8 @@ openings e _ _ _ (pass p ss K u es x d) [] at = []
 openings e _ _ _ (pass p ss K u es x d) (o ∷ F) at = openings e _ u es d (steps_in ss o ++ F) at
 openings e _ _ _ (stop p K u es d) [] at = []
 openings e _ _ _ (stop p K u es d) (o ∷ F) at = openings e K u es d F at
-openings e _ _ _ (more p c t K u es a h d) [] at = []
-openings e _ _ _ (more p c t K u es a h d) (o ∷ F) at =
+openings e _ _ _ (more p c t K u es a h k d) [] at = []
+openings e _ _ _ (more p c t K u es a h k d) (o ∷ F) at =
     opening (level_of p) o at
     ++ openings e _ _ es d (steps_in c.steps (behind_choice c.take (entered (level_of p) o) at) ++ (as_step o (step.Make form.Add) ∷ (o ∷ F))) (next_at c.take at)
 

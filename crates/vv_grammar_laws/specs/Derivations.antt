@@ -13,6 +13,7 @@ use Rattle.vv_grammar.specs.declared.step.Take.TheVariants as take
 use Rattle.vv_grammar.specs.declared.terminal.Terminal.{Terminal}
 use Rattle.vv_grammar.specs.Terminals.{same, contains}
 use Rattle.vv_grammar.specs.Table.{Choice, alternatives, otherwise}
+use Rattle.vv_grammar.specs.Machine.{takes}
 
 -- one of the alternatives
 pub data IsAmong : Choice → List Choice → Type 0 where
@@ -49,9 +50,9 @@ pub data Derives (e : Edition) : List Step → List Terminal → List Event → 
       → otherwise p ≡ Some ss → Derives e (ss ++ K) u es → Derives e (step.Call p ∷ K) u es
   -- no more of a list
   stop : (p : Place) (K : List Step) (u : List Terminal) (es : List Event) → Derives e K u es → Derives e (step.Many p ∷ K) u es
-  -- one more part of a list
+  -- one more part of a list, whose first token is taken
   more : (p : Place) (c : Choice) (t : Terminal) (K : List Step) (u : List Terminal) (es : List Event)
-      → IsAmong c (alternatives e p) → contains c.on t ≡ true
+      → IsAmong c (alternatives e p) → contains c.on t ≡ true → takes c.take ≡ true
       → Derives e (c.steps ++ (step.Make form.Add ∷ step.Many p ∷ K)) (left c.take t u) es
       → Derives e (step.Many p ∷ K) (t ∷ u) (noted c.take ++ es)
 

@@ -3,8 +3,9 @@
 ghost use Rattle.std.specs.Prelude.{◌≡◌, ℕ, List, [], drop};
 ghost use Rattle.vv_grammar.specs.declared.event.Event.{Event};
 ghost use Rattle.vv_grammar.specs.declared.machine.Stop.TheVariants.{Deep, Misplaced};
+ghost use Rattle.vv_grammar.specs.declared.stack.Pending.{Pending};
 ghost use Rattle.vv_grammar.specs.declared.terminal.Terminal.{Terminal};
-ghost use Rattle.vv_grammar.specs.Machine.{Halts, Leads, misplaced, outcome, reads, starting_with, too_deep};
+ghost use Rattle.vv_grammar.specs.Machine.{Halts, Leads, going, misplaced, move, outcome, outcome_behind, reads, starting_with, too_deep};
 ghost use Rattle.vv_grammar_laws.specs.Derivations.{Derives};
 ghost use Rattle.vv_grammar_laws.specs.Readings.{IsDeep, IsReading, IsReadWhole, IsRefusal, IsShallow, IsTooDeep};
 ghost use Rattle.vv_grammar_laws.specs.Starts.{Start, steps_for};
@@ -43,6 +44,11 @@ pub fn what_is_derived_is_read(edition: Edition, tokens: &[Terminal])
         → Halts edition tokens.now (starting_with (steps_for s) at) at (Misplaced n) → ⊥ }
     ensures deep { (s : Start) (at n : ℕ) (fs : List Event) (d : Derives edition (steps_for s) (drop at tokens.now) fs)
         → Halts edition tokens.now (starting_with (steps_for s) at) at (Deep n) → IsTooDeep edition s (drop at tokens.now) fs d at n }
+{}
+
+/// The outcome of a state is told by its move and by the outcome of the state behind that: it has no other bound.
+pub fn outcomes_go_by_moves(edition: Edition, tokens: &[Terminal])
+    ensures { (K : List Pending) (at : ℕ) (es : List Event) → outcome_behind edition tokens.now K at es ≡ going (outcome_behind edition tokens.now) es at (move edition tokens.now K at) }
 {}
 
 /// The outcome of the machine is a reading, a misplaced token or something too deep, in the sense of derivations.

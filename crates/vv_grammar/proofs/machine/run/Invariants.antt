@@ -1,7 +1,12 @@
-use Rattle.std.proofs.Common.{◌≡◌, ◌-◌}
-use Rattle.vv_grammar.specs.Machine.{Leads, starting_with, drive, outcome, most_moves}
+use Rattle.std.proofs.Common.{◌≡◌, suc}
+use Rattle.vv_grammar.specs.Machine.{Leads, starting_with, drive, outcome}
+use Rattle.vv_grammar.proofs.Weights.{measure}
 use Rattle.vv_grammar.proofs.machine.run.Given as goal
 
 abbrev pub invariant-moves : goal.invariant-moves
 invariant-moves l = Leads l.edition l.tokens (starting_with l.steps l.at) l.at l.state.events.items l.state.stack l.state.at
-    × (drive (most_moves - l.counter) l.edition l.tokens l.state.stack l.state.at l.state.events.items ≡ outcome l.edition l.tokens (starting_with l.steps l.at) l.at)
+    × (drive (suc (measure l.edition l.tokens l.state.stack l.state.at)) l.edition l.tokens l.state.stack l.state.at l.state.events.items
+    ≡ outcome l.edition l.tokens (starting_with l.steps l.at) l.at)
+
+abbrev pub decreases-moves : goal.decreases-moves
+decreases-moves l = measure l.edition l.tokens l.state.stack l.state.at
