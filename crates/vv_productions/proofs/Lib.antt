@@ -12,3 +12,4 @@ pub mod Sound
 pub mod OneCode
 pub mod Complete
 pub mod Main
+pub mod Readings

@@ -1,3 +1,4 @@
 pub mod Phrases
 pub mod Productions
 pub mod Matches
+pub mod Readings
