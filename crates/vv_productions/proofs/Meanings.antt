@@ -84,9 +84,7 @@ aggregate_end = more_elements ▸ skip_sign sign.Close ▸ make form.Aggregate
 
 -- an aggregate behind its parenthesis
 abbrev pub aggregate_rest : Phrase
-aggregate_rest =
-    (rule p.bound_element ▸ make form.One or rule p.expression ▸ make form.Element ▸ make form.One ▸ comma ▸ rule p.element ▸ make form.Add)
-    ▸ aggregate_end
+aggregate_rest = (rule p.bound_element ▸ make form.One or q.two_elements) ▸ aggregate_end
 
 -- an element behind its first choices
 abbrev pub behind_choices : Phrase
@@ -107,16 +105,6 @@ mode = or_absent (keep_word word.In or keep_word word.Out or keep_word word.Inou
 abbrev pub port_rest : Phrase
 port_rest = make form.One ▸ more_of comma id ▸ colon ▸ mode ▸ rule p.subtype_indication ▸ q.default ▸ make form.PortInterface
 
-abbrev pub type_definition : Phrase
-type_definition =
-    keep_sign sign.Open ▸ some_of (rule p.enumeration_literal) comma ▸ skip_sign sign.Close ▸ make form.Enumeration
-    or keep_word word.Array
-    ▸ in_parentheses (rule p.mark ▸ skip_word word.Range ▸ skip_sign sign.Unconstrained ▸ make form.Unbounded or rule p.discrete_range ▸ make form.Bounded)
-    ▸ skip_word word.Of ▸ rule p.subtype_indication ▸ make form.Array
-
-abbrev pub array_index : Phrase
-array_index = rule p.mark ▸ skip_word word.Range ▸ skip_sign sign.Unconstrained ▸ make form.Unbounded or rule p.discrete_range ▸ make form.Bounded
-
 abbrev pub unbounded : Phrase
 unbounded = skip_sign sign.Unconstrained ▸ make form.Unbounded
 
@@ -134,9 +122,7 @@ function_body =
     ▸ skip_word word.End ▸ option (skip_word word.Function) ▸ or_absent (id or keep the.Str) ▸ semicolon ▸ make form.FunctionBody
 
 abbrev pub attribute_specification : Phrase
-attribute_specification =
-    skip_word word.Of ▸ some_of (rule p.entity_designator) comma ▸ colon ▸ rule p.entity_class
-    ▸ skip_word word.Is ▸ rule p.expression ▸ semicolon ▸ make form.AttributeSpecification
+attribute_specification = q.attribute_value ▸ semicolon ▸ make form.AttributeSpecification
 
 abbrev pub attribute_declaration : Phrase
 attribute_declaration = colon ▸ rule p.mark ▸ semicolon ▸ make form.AttributeDeclaration
@@ -159,14 +145,8 @@ behind_waveform =
     many (skip_word word.When ▸ rule p.expression ▸ make form.ConditionalWaveform ▸ make form.Add ▸ skip_word word.Else ▸ rule p.expression)
     ▸ (skip_word word.When ▸ rule p.expression ▸ make form.ConditionalWaveform or make form.Waveform) ▸ make form.Add
 
-abbrev pub generic_map : Phrase
-generic_map = or_empty (skip_word word.Generic ▸ skip_word word.Map ▸ in_parentheses (q.associations))
-
-abbrev pub port_map : Phrase
-port_map = or_empty (skip_word word.Port ▸ skip_word word.Map ▸ in_parentheses (q.associations))
-
 abbrev pub instance_rest : Phrase
-instance_rest = generic_map ▸ port_map ▸ semicolon ▸ make form.Instance
+instance_rest = q.generic_map ▸ q.port_map ▸ semicolon ▸ make form.Instance
 
 abbrev pub process_rest : Phrase
 process_rest =
@@ -274,7 +254,7 @@ ways e place.DiscreteRange = one (rule p.discrete_range)
 ways e place.DiscreteRangeBehindMark = two (more_parts ▸ behind_parts ▸ q.range_end ▸ make form.Discrete) (more_of_mark ▸ make form.Mark ▸ skip_word word.Range ▸ rule p.range ▸ make form.MarkRange)
 ways e place.MarkParts = one more_of_mark
 ways e place.MoreIdents = one (more_of comma id)
-ways e place.Constraint = one (or_absent (in_parentheses (rule p.discrete_range) ▸ make form.IndexConstraint or skip_word word.Range ▸ rule p.range ▸ make form.RangeConstraint))
+ways e place.Constraint = one (or_absent q.constraint)
 ways e place.TypeMark = one (rule p.mark)
 ways e place.Name = one (rule p.name)
 ways e place.Choices = one (rule p.choices)
@@ -300,10 +280,10 @@ ways e place.PortInterface = one (rule p.port)
 ways e place.PortInterfaceRest = one port_rest
 ways e place.MorePortInterfaces = one (more_of semicolon (rule p.port))
 ways e place.Mode = one mode
-ways e place.TypeDefinition = one type_definition
+ways e place.TypeDefinition = one (q.enumeration or q.array)
 ways e place.EnumerationLiteral = one (rule p.enumeration_literal)
 ways e place.MoreEnumerationLiterals = one (more_of comma (rule p.enumeration_literal))
-ways e place.ArrayIndex = one array_index
+ways e place.ArrayIndex = one q.array_index
 ways e place.ArrayIndexBehindMark = flat (more_parts ▸ behind_parts ▸ q.range_end ▸ make form.Discrete ▸ make form.Bounded) ∷ flat (more_of_mark ▸ make form.Mark ▸ skip_word word.Range ▸ unbounded) ∷ flat (more_of_mark ▸ make form.Mark ▸ skip_word word.Range ▸ bounded) ∷ []
 ways e place.ArrayIndexBehindRange = two unbounded bounded
 ways e place.BehindAttribute = two attribute_declaration attribute_specification
@@ -314,7 +294,7 @@ ways e place.SelectedName = one (rule p.selected_name)
 ways e place.MoreSelectedNames = one (more_of comma (rule p.selected_name))
 ways e place.SelectedSuffix = one (or_absent (dot ▸ suffix))
 ways e place.Suffix = one suffix
-ways e place.TypeRest = one (id ▸ skip_word word.Is ▸ type_definition ▸ semicolon ▸ make form.Type)
+ways e place.TypeRest = one (id ▸ skip_word word.Is ▸ (q.enumeration or q.array) ▸ semicolon ▸ make form.Type)
 ways e place.SubtypeRest = one (id ▸ skip_word word.Is ▸ rule p.subtype_indication ▸ semicolon ▸ make form.SubtypeDeclaration)
 ways e place.ObjectRest = one q.objects
 ways e place.FunctionRest = one function_rest
@@ -330,8 +310,8 @@ ways e place.MoreSelections = one (more_of comma q.selection)
 ways e place.Report = one (or_absent (skip_word word.Report ▸ rule p.expression))
 ways e place.Severity = one q.severity
 ways e place.OptionalArchitecture = one (or_absent (in_parentheses id))
-ways e place.GenericMap = one generic_map
-ways e place.PortMap = one port_map
+ways e place.GenericMap = one q.generic_map
+ways e place.PortMap = one q.port_map
 ways e place.Association = one (rule p.association)
 ways e place.AssociationBehindIdent = two (arrow ▸ rule p.actual_part ▸ make form.NamedAssociation) (behind_identifier ▸ make form.Given ▸ make form.PositionalAssociation)
 ways e place.ActualPart = one (rule p.actual_part)

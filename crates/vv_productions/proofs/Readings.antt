@@ -1,5 +1,5 @@
 -- What the laws say of derivations, said of matches.
-use Rattle.std.proofs.Common.{◌≡◌, ℕ, List, [], ◌∷◌, ◌++◌, drop, refl, sym, ap, ◌∙◌, subst}
+use Rattle.std.proofs.Common.{◌≡◌, ℕ, List, [], ◌∷◌, ◌++◌, sym, ap, ◌∙◌}
 use Rattle.vv_vlex.specs.declared.token.Token.{Token}
 use Rattle.vv_grammar.specs.declared.edition.Edition.{Edition}
 use Rattle.vv_grammar.specs.declared.event.Event.{Event}

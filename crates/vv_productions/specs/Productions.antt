@@ -22,14 +22,50 @@ identifiers = some_of id comma
 abbrev pub objects : Phrase
 objects = identifiers ▸ colon ▸ rule subtype_indication ▸ default ▸ semicolon
 
+abbrev pub enumeration : Phrase
+enumeration = keep_sign sign.Open ▸ some_of (rule enumeration_literal) comma ▸ skip_sign sign.Close ▸ make form.Enumeration
+
+abbrev pub array_index : Phrase
+array_index =
+    rule mark ▸ skip_word word.Range ▸ skip_sign sign.Unconstrained ▸ make form.Unbounded
+    or rule discrete_range ▸ make form.Bounded
+
+abbrev pub array : Phrase
+array = keep_word word.Array ▸ in_parentheses array_index ▸ skip_word word.Of ▸ rule subtype_indication ▸ make form.Array
+
+abbrev pub constraint : Phrase
+constraint =
+    in_parentheses (rule discrete_range) ▸ make form.IndexConstraint
+    or skip_word word.Range ▸ rule range ▸ make form.RangeConstraint
+
+abbrev pub associations : Phrase
+associations = some_of (rule association) comma
+
+-- the value of an attribute for some named entities of a class
+abbrev pub attribute_value : Phrase
+attribute_value = skip_word word.Of ▸ some_of (rule entity_designator) comma ▸ colon ▸ rule entity_class ▸ skip_word word.Is ▸ rule expression
+
+abbrev pub component_instance : Phrase
+component_instance = option (skip_word word.Component) ▸ rule mark ▸ make form.Component
+
+abbrev pub entity_instance : Phrase
+entity_instance = keep_word word.Entity ▸ rule mark ▸ or_absent (in_parentheses id) ▸ make form.EntityInstance
+
+abbrev pub generic_map : Phrase
+generic_map = or_empty (skip_word word.Generic ▸ skip_word word.Map ▸ in_parentheses associations)
+
+abbrev pub port_map : Phrase
+port_map = or_empty (skip_word word.Port ▸ skip_word word.Map ▸ in_parentheses associations)
+
+-- two elements without choices at the start of an aggregate
+abbrev pub two_elements : Phrase
+two_elements = rule expression ▸ make form.Element ▸ make form.One ▸ comma ▸ rule element ▸ make form.Add
+
 abbrev pub severity : Phrase
 severity = or_absent (skip_word word.Severity ▸ rule expression)
 
 abbrev pub condition : Phrase
 condition = or_absent (skip_word word.When ▸ rule expression)
-
-abbrev pub associations : Phrase
-associations = some_of (rule association) comma
 
 abbrev pub case_arm : Phrase
 case_arm = skip_word word.When ▸ rule choices ▸ arrow ▸ each (rule statement) ▸ make form.CaseArm
@@ -44,7 +80,7 @@ range_end = (keep_word word.To or keep_word word.Downto) ▸ rule expression ▸
 
 -- operands that one operator joins, behind the first one
 abbrev pub operands : Phrase → Phrase → Phrase
-operands operator operand = operator ▸ operand ▸ make form.Operand ▸ make form.One ▸ many (operator ▸ operand ▸ make form.Operand ▸ make form.Add)
+operands operator a = operator ▸ a ▸ make form.Operand ▸ make form.One ▸ many (operator ▸ a ▸ make form.Operand ▸ make form.Add)
 
 -- the only operand behind the first one
 abbrev pub operand : Phrase → Phrase → Phrase
@@ -124,13 +160,7 @@ definition e declaration =
 definition e process_declaration =
     rule common_declaration or rule function_body
     or keep_word word.Variable ▸ objects ▸ make form.Variable
-definition e type_declaration =
-    keep_word word.Type ▸ id ▸ skip_word word.Is
-    ▸ (keep_sign sign.Open ▸ some_of (rule enumeration_literal) comma ▸ skip_sign sign.Close ▸ make form.Enumeration
-    or keep_word word.Array
-    ▸ in_parentheses (rule mark ▸ skip_word word.Range ▸ skip_sign sign.Unconstrained ▸ make form.Unbounded or rule discrete_range ▸ make form.Bounded)
-    ▸ skip_word word.Of ▸ rule subtype_indication ▸ make form.Array)
-    ▸ semicolon ▸ make form.Type
+definition e type_declaration = keep_word word.Type ▸ id ▸ skip_word word.Is ▸ (enumeration or array) ▸ semicolon ▸ make form.Type
 definition e enumeration_literal = id or keep the.Char
 definition e subtype_declaration =
     keep_word word.Subtype ▸ id ▸ skip_word word.Is ▸ rule subtype_indication ▸ semicolon ▸ make form.SubtypeDeclaration
@@ -147,19 +177,14 @@ definition e function_body =
     ▸ skip_word word.End ▸ option (skip_word word.Function) ▸ or_absent (id or keep the.Str) ▸ semicolon ▸ make form.FunctionBody
 definition e attribute =
     keep_word word.Attribute ▸ id ▸ colon ▸ rule mark ▸ semicolon ▸ make form.AttributeDeclaration
-    or keep_word word.Attribute ▸ id ▸ skip_word word.Of ▸ some_of (rule entity_designator) comma ▸ colon ▸ rule entity_class
-    ▸ skip_word word.Is ▸ rule expression ▸ semicolon ▸ make form.AttributeSpecification
+    or keep_word word.Attribute ▸ id ▸ attribute_value ▸ semicolon ▸ make form.AttributeSpecification
 definition e entity_designator = id or keep the.Char or keep the.Str or keep_word word.Others or keep_word word.All
 definition e entity_class =
     keep_word word.Entity or keep_word word.Architecture or keep_word word.Signal or keep_word word.Variable or keep_word word.Constant
     or keep_word word.Type or keep_word word.Subtype or keep_word word.Component or keep_word word.Label or keep_word word.Function or keep_word word.Package
 definition e mark = id ▸ make form.Empty ▸ many (dot ▸ id ▸ make form.SelectedPart ▸ make form.Add) ▸ make form.Mark
-definition e subtype_indication =
-    rule mark
-    ▸ or_absent (in_parentheses (rule discrete_range) ▸ make form.IndexConstraint or skip_word word.Range ▸ rule range ▸ make form.RangeConstraint)
-    ▸ make form.Subtype
-definition e range =
-    rule expression ▸ range_end
+definition e subtype_indication = rule mark ▸ or_absent constraint ▸ make form.Subtype
+definition e range = rule expression ▸ range_end
 definition e discrete_range =
     rule range ▸ make form.Discrete
     or rule mark ▸ skip_word word.Range ▸ rule range ▸ make form.MarkRange
@@ -182,12 +207,7 @@ definition e conditional_assignment =
     ▸ semicolon ▸ make form.Conditional
 definition e selected_assignment =
     keep_word word.With ▸ rule expression ▸ skip_word word.Select ▸ rule name ▸ skip_sign sign.LessEqual ▸ list_of selection comma ▸ semicolon ▸ make form.Select
-definition e instance =
-    (option (skip_word word.Component) ▸ rule mark ▸ make form.Component
-    or keep_word word.Entity ▸ rule mark ▸ or_absent (in_parentheses id) ▸ make form.EntityInstance)
-    ▸ or_empty (skip_word word.Generic ▸ skip_word word.Map ▸ in_parentheses (associations))
-    ▸ or_empty (skip_word word.Port ▸ skip_word word.Map ▸ in_parentheses (associations))
-    ▸ semicolon ▸ make form.Instance
+definition e instance = (component_instance or entity_instance) ▸ generic_map ▸ port_map ▸ semicolon ▸ make form.Instance
 definition e association =
     id ▸ arrow ▸ rule actual_part ▸ make form.NamedAssociation
     or rule actual_part ▸ make form.PositionalAssociation
@@ -249,7 +269,7 @@ definition e parenthesis = keep_sign sign.Open ▸ rule expression ▸ skip_sign
 -- An aggregate has two elements or a choice.
 definition e aggregate =
     keep_sign sign.Open
-    ▸ (rule bound_element ▸ make form.One or rule expression ▸ make form.Element ▸ make form.One ▸ comma ▸ rule element ▸ make form.Add)
+    ▸ (rule bound_element ▸ make form.One or two_elements)
     ▸ many (comma ▸ rule element ▸ make form.Add) ▸ skip_sign sign.Close ▸ make form.Aggregate
 definition e element = rule bound_element or rule expression ▸ make form.Element
 definition e bound_element = rule choices ▸ arrow ▸ rule expression ▸ make form.BoundElement
