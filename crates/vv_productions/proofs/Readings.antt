@@ -30,7 +30,7 @@ pub misplaced-of : (e : Edition) (s : Start) (ts : List Terminal) (a n : ℕ) �
 misplaced-of e s ts a n r = record {
   tokens = r.tokens;
   between = r.between;
-  starts = start-of e s r.tokens r.viable;
+  starts = start-of e s r.tokens (record { more = r.goes_on.more; events = r.goes_on.events; derives = r.goes_on.derives });
   never = λ t k i. r.never t k (viable-of e s (r.tokens ++ (t ∷ [])) i);
   ends = λ es k m. r.ends es k (derives e s r.tokens es m);
 }

@@ -1,14 +1,15 @@
 -- What is read, what is refused and which tree is made, told by the productions alone.
-use Rattle.std.specs.Prelude.{◌≡◌, ℕ, List, [], ◌∷◌, ◌++◌, Some, None}
+use Rattle.std.specs.Prelude.{◌≡◌, ◌⊎◌, ℕ, List, [], ◌∷◌, ◌++◌, Some, None, drop}
 use Rattle.vv_base.specs.declared.fault.Span.{Span}
 use Rattle.vv_vlex.specs.declared.token.Token.{Token}
 use Rattle.vv_grammar.specs.declared.edition.Edition.{Edition}
 use Rattle.vv_grammar.specs.declared.event.Event.{Event}
 use Rattle.vv_grammar.specs.declared.terminal.Terminal.{Terminal}
-use Rattle.vv_grammar.specs.Machine.{next_terminal}
+use Rattle.vv_grammar.specs.declared.machine.Stop.TheVariants.{Deep}
+use Rattle.vv_grammar.specs.Machine.{next_terminal, starting_with, Leads, Halts}
 use Rattle.vv_grammar.specs.Terminals.{terminals_of}
 use Rattle.vv_grammar.specs.Trees.{Tree, replay}
-use Rattle.vv_grammar_laws.specs.Starts.{Start, AreBetween}
+use Rattle.vv_grammar_laws.specs.Starts.{Start, steps_for, AreBetween}
 use Rattle.vv_productions.specs.Matches.{Matches, phrase_for}
 
 -- The tokens are the start of some that match.
@@ -31,6 +32,12 @@ pub record IsMisplaced (e : Edition) (s : Start) (ts : List Terminal) (a n : ℕ
   pub starts : IsStart e s tokens
   pub never : (t : Terminal) → next_terminal ts n ≡ Some t → IsStart e s (tokens ++ (t ∷ [])) → ⊥
   pub ends : (es : List Event) → next_terminal ts n ≡ None → Matches e (phrase_for s ∷ []) tokens es → ⊥
+
+-- The machine reads all tokens from a on, and these events happen; or something is too deep for it.
+abbrev pub IsReadOrDeep : Edition → Start → List Terminal → ℕ → List Event → Type 0
+IsReadOrDeep e s ts a es =
+    ((b : ℕ) × Leads e ts (starting_with (steps_for s) a) a es [] b × (drop b ts ≡ []))
+    ⊎ ((n : ℕ) × Halts e ts (starting_with (steps_for s) a) a (Deep n))
 
 -- before the first token
 abbrev pub nowhere : Span

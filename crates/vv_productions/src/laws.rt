@@ -8,10 +8,9 @@ ghost use Rattle.vv_grammar.specs.declared.terminal.Terminal.{Terminal};
 ghost use Rattle.vv_grammar.specs.Machine.{Halts, Leads, starting_with};
 ghost use Rattle.vv_grammar.specs.Trees.{Tree};
 ghost use Rattle.vv_grammar_laws.specs.Derivations.{Derives};
-ghost use Rattle.vv_grammar_laws.specs.Readings.{IsReadWhole};
 ghost use Rattle.vv_grammar_laws.specs.Starts.{Start, steps_for};
 ghost use Rattle.vv_productions.specs.Matches.{Matches, phrase_for};
-ghost use Rattle.vv_productions.specs.Readings.{IsMisplaced, IsRead, IsTreeOf};
+ghost use Rattle.vv_productions.specs.Readings.{IsMisplaced, IsRead, IsReadOrDeep, IsTreeOf};
 
 use vv_grammar::edition::Edition;
 use vv_grammar::terminal::Terminal;
@@ -39,7 +38,7 @@ pub fn what_is_read_matches(edition: Edition, tokens: &[Terminal])
 
 /// Where all tokens from one on match, the machine reads them, unless something is too deep for it.
 pub fn what_matches_is_read(edition: Edition, tokens: &[Terminal])
-    ensures { (s : Start) (at : ℕ) (es : List Event) → Matches edition (phrase_for s ∷ []) (drop at tokens.now) es → IsReadWhole edition s tokens.now at es }
+    ensures { (s : Start) (at : ℕ) (es : List Event) → Matches edition (phrase_for s ∷ []) (drop at tokens.now) es → IsReadOrDeep edition s tokens.now at es }
 {}
 
 /// The machine refuses at the first token with which what was read is the start of nothing that matches.
