@@ -1,0 +1,27 @@
+//! Laws on the rows. Each function does nothing: its contract is the law.
+
+ghost use Rattle.std.specs.Prelude.{◌≡◌, ◌↔◌, [], IsTrue};
+ghost use Rattle.vv_std_values.specs.Equality.{same_value};
+ghost use Rattle.vv_std_values.specs.Rows.{row_of_one, row_of_two};
+ghost use Rattle.vv_std_cells.specs.Rows.{cells_row};
+ghost use Rattle.vv_std_laws.specs.Cells.{cells_of};
+ghost use Rattle.vv_std_laws.specs.Operands.{IsOperand, AreOperands};
+
+use vv_types::{StdFn, Value};
+
+/// Two values are the same exactly where they are equal.
+pub fn same_values_are_equal(a: &Value, b: &Value)
+    ensures { IsTrue (same_value a.now b.now) ↔ a.now ≡ b.now }
+{}
+
+/// The row over cells, at the cells of an operand that the row has, gives the cells of what the row over values gives.
+pub fn cells_are_those_of_the_value(f: StdFn, a: &Value)
+    requires { IsOperand f a.now }
+    ensures { cells_row f (cells_of a.now) [] ≡ cells_of (row_of_one f a.now) }
+{}
+
+/// The same for two operands.
+pub fn cells_are_those_of_the_values(f: StdFn, a: &Value, b: &Value)
+    requires { AreOperands f a.now b.now }
+    ensures { cells_row f (cells_of a.now) (cells_of b.now) ≡ cells_of (row_of_two f a.now b.now) }
+{}
