@@ -189,9 +189,10 @@ opened codec x is = coe 0 1 (i. value_roll codec x i) is
 module _ (codec : Codec-F Codec) (count : (x : Value-F Value) (a : Value) → x ≡ out-Value a → value_step Codec (λ d. d) IsValueOf codec a → length (layer_cells x) ≡ scalars_step (map-Codec Codec ℕ scalar_count codec))
     (agree : (a b : Value) → value_step Codec (λ d. d) IsValueOf codec a → value_step Codec (λ d. d) IsValueOf codec b → Agree (out-Value a) (out-Value b)) where
   told_by_layers : Told (roll-Codec codec)
-  told_by_layers =
-      ((λ a is. ap length (cells_out a) ∙ count (out-Value a) a refl (opened codec a is) ∙ sym (count_roll codec)),
-      (λ a b left right. same_by_layers a b (agree a b (opened codec a left) (opened codec b right))))
+  told_by_layers = (
+    (λ a is. ap length (cells_out a) ∙ count (out-Value a) a refl (opened codec a is) ∙ sym (count_roll codec)),
+    (λ a b left right. same_by_layers a b (agree a b (opened codec a left) (opened codec b right))),
+  )
 
 layer_told : (codec : Codec-F ((d : Codec) × Told d)) → Told (roll-Codec (map-Codec ((d : Codec) × Told d) Codec (λ e. e.0) codec))
 layer_told c.Std =

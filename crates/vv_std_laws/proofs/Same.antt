@@ -69,11 +69,12 @@ own_layer (v.Enum a) = eq-eqb a a refl
 own_layer (v.Array told) = own_elements told
 
 layer_is_told : (x : Value-F Told) → IsTold (roll-Value (untold x))
-layer_is_told x =
-    ((λ b e. ap roll-Value (same_layers x (out-Value b) (sym (same_roll (untold x) b) ∙ e)) ∙ roll-out-Value b),
-    same_roll (untold x) (roll-Value (untold x))
-    ∙ ap (same_layer (map-Value Value (Value → Bool) same_value (untold x))) (out-roll-Value (untold x))
-    ∙ own_layer x)
+layer_is_told x = (
+  (λ b e. ap roll-Value (same_layers x (out-Value b) (sym (same_roll (untold x) b) ∙ e)) ∙ roll-out-Value b),
+  same_roll (untold x) (roll-Value (untold x))
+      ∙ ap (same_layer (map-Value Value (Value → Bool) same_value (untold x))) (out-roll-Value (untold x))
+      ∙ own_layer x,
+)
 
 is_told : (a : Value) → IsTold a
 is_told a = ind-Value IsTold (λ x told is. subst (λ z. IsTold (roll-Value z)) is (layer_is_told told)) a
