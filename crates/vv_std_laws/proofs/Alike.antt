@@ -3,6 +3,7 @@ use Rattle.std.proofs.Common.{◌≡◌, ℕ, zero, suc, ◌+◌, ◌*◌, ◌<�
 use Rattle.std.proofs.Math.Bool.{and-true}
 use Rattle.std.proofs.lemmas.Bool.Decides.{same_from_decides, Decides-int_eq, Decides-eqb}
 use Rattle.std.specs.Cmp.Lexicographic.{pointwise}
+use Rattle.std.specs.Cmp.Rules.{signed_items}
 use Rattle.std.specs.List.{AllByRecursion, flat_map}
 use Rattle.std.specs.Ordering.{int_eq}
 use Rattle.vv_bits.specs.Nine.{code}
@@ -19,6 +20,7 @@ use Rattle.vv_std_values.specs.Equality.{same_bool, same_layer, same_value}
 use Rattle.vv_std_cells.specs.Rows.{same_cells, truth}
 use Rattle.vv_std_laws.specs.Cells.{cells_of, scalar_count, scalars_step}
 use Rattle.vv_std_laws.specs.Operands.{IsArrayWith, IsInt, IsPosition}
+use Rattle.vv_std_laws.proofs.Same.{same_is_equal}
 use Rattle.vv_std_laws.proofs.Layers.{array_layer, bool_layer, cells_out, int_layer, joined_map, layer_cells, logic_layer, position_layer, same_out}
 
 -- ---- one scalar
@@ -229,3 +231,11 @@ alike_agree codec x y some left right =
     let p = array_layer (IsValueOf codec) x left in
     let q = array_layer (IsValueOf codec) y right in
     arrays_agree codec (told_of codec) x y p.0 q.0 p.1 q.1 p.2 q.2 (inr some)
+
+pub as_many_cells : (codec : Codec) (x : Value) → IsValueOf codec x → length (cells_of x) ≡ scalar_count codec
+as_many_cells codec = (told_of codec).0
+
+-- among the values of a codec, the cells tell the value
+pub told_by_cells : (codec : Codec) (a b : Value) → IsValueOf codec a → IsValueOf codec b → cells_of a ≡ cells_of b → a ≡ b
+told_by_cells codec a b left right e =
+    (same_is_equal a b).0 (sym ((told_of codec).1 a b left right) ∙ (signed_items (cells_of a) (cells_of b)).1 e)
