@@ -1,25 +1,24 @@
 -- Rows over cells and rows over values.
-use Rattle.std.proofs.Common.{◌≡◌, ℕ, Bool, true, false, not, List, [], ◌∷◌, ◌++◌, length, ℤ, pos, int_lt, int_le, refl, ap, sym, subst, ◌∙◌, map, append-nil}
+use Rattle.std.proofs.Common.{◌≡◌, Bool, true, false, not, List, [], ◌∷◌, ◌++◌, ℤ, int_lt, int_le, refl, ap, sym, subst, ◌∙◌, map, append-nil}
 use Rattle.std.proofs.lemmas.Grind.{flat_map-append}
 use Rattle.std.specs.List.{AllByRecursion, flat_map, zip}
-use Rattle.std.specs.Ordering.{int_eq}
 use Rattle.vv_bits.specs.declared.nine.S9.{S9}
 use Rattle.vv_bits.specs.Nine.{not_rule}
-use Rattle.vv_types.specs.Codec.{IsBool, IsLogic, IsValueOf}
+use Rattle.vv_types.specs.Codec.{IsBool, IsLogic}
 use Rattle.vv_types.specs.declared.standard.StdFn.{StdFn}
 use Rattle.vv_types.specs.declared.standard.StdFn.TheVariants as f
 use Rattle.vv_types.specs.declared.value.Value.{Value, out-Value, out-roll-Value, roll-Value, roll-out-Value}
 use Rattle.vv_types.specs.declared.value.Value.TheOpen.{Value-F}
 use Rattle.vv_types.specs.declared.value.Value.TheOpen as v
-use Rattle.vv_vectors.specs.Vectors.{bit_of, cell_of}
+use Rattle.vv_vectors.specs.Vectors.{cell_of}
 use Rattle.vv_vectors.proofs.Places.{bit_of_cell, bits_of_cells}
-use Rattle.vv_std_values.specs.Equality.{same_bool, same_value}
-use Rattle.vv_std_values.specs.Rows.{array, boolean, boolean_rule, booleans, elements_layer, logic_row, logic_rule, logics, not_boolean, not_logic, not_vector, rank, rank_layer, relation_row, row_of_one, row_of_two, vectors}
+use Rattle.vv_std_values.specs.Equality.{same_value}
+use Rattle.vv_std_values.specs.Rows.{array, boolean, boolean_rule, booleans, elements_layer, logic_row, logic_rule, logics, not_boolean, not_logic, not_vector, rank, rank_layer, row_of_one, row_of_two, vectors}
 use Rattle.vv_std_values.specs.declared.gates.Gate.{Gate}
 use Rattle.vv_std_values.specs.declared.gates.Gate.TheVariants.{And, Or, Xor, Nand, Nor, Xnor}
-use Rattle.vv_std_cells.specs.Rows.{cells_row, first, holds, logic, logic_cells, not_cells, relation_holds, same_cells, truth, truth_cells}
-use Rattle.vv_std_laws.specs.Cells.{cells_of, cells_step}
-use Rattle.vv_std_laws.specs.Operands.{AreAlike, AreBoth, AreOperands, IsArray, IsArrayWith, IsInt, IsOperand, IsPosition, IsVector}
+use Rattle.vv_std_cells.specs.Rows.{cells_row, first, holds, logic, logic_cells, not_cells, same_cells, truth, truth_cells}
+use Rattle.vv_std_laws.specs.Cells.{cells_of}
+use Rattle.vv_std_laws.specs.Operands.{AreAlike, AreBoth, AreOperands, IsArray, IsInt, IsOperand, IsPosition, IsVector}
 use Rattle.vv_std_laws.proofs.Layers.{array_layer, bool_layer, cells_out, cells_roll, int_layer, joined_map, layer_cells, logic_layer, position_layer}
 use Rattle.vv_std_laws.proofs.Alike.{alike_agree, bools_agree, ints_agree, logics_agree, positions_agree, same_by_layers}
 

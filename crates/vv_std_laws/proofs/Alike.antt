@@ -1,5 +1,5 @@
 -- Values of one codec are the same exactly where their cells are.
-use Rattle.std.proofs.Common.{◌≡◌, ℕ, zero, suc, ◌+◌, ◌*◌, ◌<◌, Bool, true, false, ◌&&◌, ◌==◌, List, [], ◌∷◌, ◌++◌, length, ℤ, pos, nat_abs, refl, ap, sym, subst, ◌∙◌, map, arith, length-append, ◌⊎◌, inl, inr}
+use Rattle.std.proofs.Common.{◌≡◌, ℕ, ◌*◌, ◌<◌, Bool, true, false, ◌&&◌, ◌==◌, List, [], ◌∷◌, ◌++◌, length, ℤ, pos, nat_abs, refl, ap, sym, subst, ◌∙◌, map, arith, length-append, ◌⊎◌, inl, inr}
 use Rattle.std.proofs.Math.Bool.{and-true}
 use Rattle.std.proofs.lemmas.Bool.Decides.{same_from_decides, Decides-int_eq, Decides-eqb}
 use Rattle.std.specs.Cmp.Lexicographic.{pointwise}
@@ -15,7 +15,6 @@ use Rattle.vv_types.specs.declared.value.Value.{Value, map-Value, out-Value}
 use Rattle.vv_types.specs.declared.value.Value.TheOpen.{Value-F}
 use Rattle.vv_types.specs.declared.value.Value.TheOpen as v
 use Rattle.vv_types.proofs.Lengths.{value_roll}
-use Rattle.vv_vectors.specs.Vectors.{cell_of}
 use Rattle.vv_std_values.specs.Equality.{same_bool, same_layer, same_value}
 use Rattle.vv_std_cells.specs.Rows.{same_cells, truth}
 use Rattle.vv_std_laws.specs.Cells.{cells_of, scalar_count, scalars_step}

@@ -1,12 +1,12 @@
 -- Values by their outermost layer.
-use Rattle.std.proofs.Common.{◌≡◌, ℕ, Bool, List, [], ◌∷◌, ◌++◌, ℤ, pos, refl, ap, map}
+use Rattle.std.proofs.Common.{◌≡◌, ℕ, Bool, List, [], ◌∷◌, ◌++◌, ℤ, refl, ap, map}
 use Rattle.std.specs.List.{AllByRecursion, flat_map}
 use Rattle.vv_bits.specs.declared.nine.S9.{S9}
 use Rattle.vv_types.specs.Codec.{IsBool, IsLogic}
 use Rattle.vv_types.specs.declared.value.Value.{Value, fold_out-Value, fold-roll-Value, map-Value, out-Value, roll-Value}
 use Rattle.vv_types.specs.declared.value.Value.TheOpen.{Value-F}
 use Rattle.vv_types.specs.declared.value.Value.TheOpen as v
-use Rattle.vv_std_values.specs.Equality.{same_layer, same_step, same_value}
+use Rattle.vv_std_values.specs.Equality.{same_step, same_value}
 use Rattle.vv_std_laws.specs.Cells.{cells_of, cells_step}
 use Rattle.vv_std_laws.specs.Operands.{IsArrayWith, IsInt, IsPosition}
 

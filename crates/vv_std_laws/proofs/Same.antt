@@ -1,5 +1,5 @@
 -- Values are the same exactly where they are equal.
-use Rattle.std.proofs.Common.{◌≡◌, ℕ, Bool, true, false, ◌&&◌, ◌==◌, List, [], ◌∷◌, ℤ, pos, refl, ap, sym, subst, ◌∙◌, ◌↔◌, IsTrue, map, true≢false, eqb-true, eq-eqb, nat_eq}
+use Rattle.std.proofs.Common.{◌≡◌, Bool, true, false, ◌&&◌, List, [], ◌∷◌, pos, refl, ap, sym, subst, ◌∙◌, ◌↔◌, IsTrue, map, true≢false, eqb-true, eq-eqb}
 use Rattle.std.specs.Cmp.{first_so, second_so}
 use Rattle.std.proofs.lemmas.Bool.Decides.{Decides-int_eq}
 use Rattle.std.specs.Cmp.Lexicographic.{pointwise}
@@ -10,7 +10,7 @@ use Rattle.vv_types.specs.declared.value.Value.TheOpen.{Value-F}
 use Rattle.vv_types.specs.declared.value.Value.TheOpen as v
 use Rattle.vv_vectors.specs.Vectors.{bit_of}
 use Rattle.vv_vectors.proofs.Places.{bit_of_cell}
-use Rattle.vv_std_values.specs.Equality.{same_bool, same_layer, same_step, same_value}
+use Rattle.vv_std_values.specs.Equality.{same_bool, same_layer, same_value}
 use Rattle.vv_std_laws.proofs.Layers.{same_roll}
 
 false_is_true : {A : Type 0} → false ≡ true → A
