@@ -95,7 +95,7 @@ fn told(rt: &HostRuntime, bytes: &[u8], refusal: Refusal) -> u8 {
 
 /// The lines of the tree, where it is printed, or the rule of elements or grammar that the bytes break first.
 fn read(alloc: Global, bytes: &[u8], prints: bool) -> Result<String, Fault> {
-    let mut names = Names::new(alloc);
+    let mut names = Names::for_files(alloc, &[bytes]);
     let tokens = lex(alloc, 0, bytes, &mut names)?;
     let kinds = terminals(alloc, tokens.as_slice())?;
     match run(alloc, Edition::Vhdl93, &FILE, kinds.as_slice(), 0) {

@@ -8,13 +8,14 @@ use crate::fault::{Memory, Name};
 use indexmap::IndexSet;
 use std::alloc::Global;
 use std::marker::Model;
+use vv_hash::{Seed, SeededState};
 
 /// The names that were seen so far. A name has the number of its text in the order of first sight, and texts that
 /// differ in letter case alone are one (IEEE 1076-1993, clause 13.3). Letters of ASCII are folded to lower case.
 #[derive(Drop)]
 pub struct Names {
     alloc: Global,
-    texts: IndexSet<Vec<u8>>,
+    texts: IndexSet<Vec<u8>, SeededState>,
 }
 
 impl Model for Names {
@@ -26,13 +27,24 @@ impl Model for Names {
 }
 
 impl Names {
-    /// No names.
+    /// No names. Their hashes draw on no file, so names of files that others wrote want `for_files`.
     pub fn new(alloc: Global) -> Names
         ensures { result ≡ [] }
     {
+        Names::for_files(alloc, &[])
+    }
+
+    /// No names. The seed of their hashes is drawn from these files, so that no file can have names that are picked to collide.
+    pub fn for_files(alloc: Global, files: &[&[u8]]) -> Names
+        ensures { result ≡ [] }
+    {
+        let mut seed = Seed::new();
+        for file in files {
+            seed.add(file);
+        }
         Names {
             alloc,
-            texts: IndexSet::new(alloc),
+            texts: IndexSet::with_hasher(alloc, seed.state()),
         }
     }
 

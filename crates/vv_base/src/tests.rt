@@ -143,7 +143,7 @@ fn faults(rt: HostRuntime) -> Result<(), Fail> {
 
 #[test]
 fn names_by_first_sight(rt: HostRuntime) -> Result<(), Fail> {
-    let mut names = Names::new(rt.alloc());
+    let mut names = Names::for_files(rt.alloc(), &[b"clk d Clk_2"]);
     let rows: [(&[u8], u32); 6] = [
         (b"clk", 0),
         (b"d", 1),

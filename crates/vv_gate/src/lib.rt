@@ -2,6 +2,5 @@
 //! Its tokens, its tree, and in specs/ what they mean.
 #![tactic(auto)]
 
-pub mod hash;
 pub mod token;
 pub mod tree;

@@ -7,8 +7,8 @@ ghost use Rattle.vv_gate_check.specs.Names.{inputs_in, names_in, Adds, Declares,
 
 use std::alloc::{AllocError, Global};
 use std::collections::HashSet;
-use vv_gate::hash::{Seed, SeededState};
 use vv_gate::tree::{Assignment, Group, Ident, Operand, Term};
+use vv_hash::{Seed, SeededState};
 
 /// The names of the ports that may still stand in an assignment.
 #[derive(Drop)]

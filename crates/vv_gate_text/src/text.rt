@@ -17,8 +17,8 @@ use crate::names::write_name;
 use crate::ports::{Port, ports};
 use std::alloc::{AllocError, Global};
 use std::collections::HashSet;
-use vv_gate::hash::{Seed, SeededState};
 use vv_gate::tree::{Assignment, GateFile, Operand, Operator, Term};
+use vv_hash::{Seed, SeededState};
 
 /// The sign of an operator.
 fn sign(operator: Operator) -> &'static [u8]

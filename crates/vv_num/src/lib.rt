@@ -9,3 +9,4 @@ mod values;
 
 pub use values::{Outcome, num_value};
 pub use vv_num_cells::num_in;
+pub use vv_num_decls::num_decls;

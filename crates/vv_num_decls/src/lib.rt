@@ -3,7 +3,6 @@
 
 mod declarations;
 mod functions;
-#[cfg(test)]
-mod tests;
+pub mod laws;
 
 pub use declarations::num_decls;

@@ -1,4 +1,4 @@
-//! The operators of the built-in packages `standard` and `std_logic_1164`, over values and in cells.
+//! The built-in packages `standard` and `std_logic_1164`: what they declare, and the values of their operators, as values and in cells.
 #![tactic(auto)]
 
 #[cfg(test)]
@@ -7,4 +7,5 @@ mod cell_tests;
 mod value_tests;
 
 pub use vv_std_cells::std_in;
+pub use vv_std_decls::std_decls;
 pub use vv_std_values::{Gate, std_value};

@@ -2,7 +2,6 @@
 #![tactic(auto)]
 
 mod declarations;
-#[cfg(test)]
-mod tests;
+pub mod laws;
 
 pub use declarations::std_decls;

@@ -5,7 +5,5 @@ pub mod lines;
 pub mod loads;
 pub mod run;
 pub mod tell;
-#[cfg(test)]
-mod tests;
 pub mod top;
 pub mod words;

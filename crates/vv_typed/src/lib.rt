@@ -5,6 +5,8 @@
 mod design;
 mod expressions;
 pub mod laws;
+#[cfg(test)]
+mod making_tests;
 mod plan;
 mod statements;
 #[cfg(test)]

@@ -1,25 +1,26 @@
-//! Hashes of names. Their seed is drawn from the names themselves, so that names cannot be picked to collide.
+//! Hashes of names. Their seed is drawn from what the names stand in, so that names cannot be picked to collide.
+#![tactic(auto)]
 
 use std::hash::{BuildHasher, DefaultHasher, FoldHasher, Hasher};
 
-/// Draws a seed from names.
+/// Draws a seed from texts.
 #[derive(Clone, Copy)]
 pub struct Seed {
     digest: DefaultHasher,
 }
 
 impl Seed {
-    /// The seed of no names.
+    /// The seed of no texts.
     pub fn new() -> Self {
         Seed {
             digest: DefaultHasher::new(),
         }
     }
 
-    /// Draws on one more name.
-    pub fn add(&mut self, name: &[u8]) {
-        self.digest.write_usize(name.len());
-        self.digest.write(name);
+    /// Draws on one more text.
+    pub fn add(&mut self, text: &[u8]) {
+        self.digest.write_usize(text.len());
+        self.digest.write(text);
     }
 
     /// The hashes that begin with this seed.

@@ -1,8 +1,8 @@
-use crate::top::v2v;
 use std::alloc::{AllocError, Global};
 use std::test::Fail;
 use vv_base::fault::Memory;
 use vv_base::memory::{MemShelf, MemSink};
+use vv_top::top::v2v;
 
 const WORDS: [&str; 5] = ["translate", "gate", "g.v", "g.csv", "g.vhd"];
 

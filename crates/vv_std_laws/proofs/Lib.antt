@@ -1,0 +1,4 @@
+pub mod Layers
+pub mod Same
+pub mod Alike
+pub mod Agree
