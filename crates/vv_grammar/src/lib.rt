@@ -7,6 +7,7 @@ pub mod form;
 pub mod machine;
 pub mod place;
 pub mod rows;
+pub mod shape;
 pub mod stack;
 pub mod starts;
 pub mod step;
