@@ -1,8 +1,8 @@
 -- The end of the file is the last element alone, so what is derived as a file is all of it.
-use Rattle.std.proofs.Common.{◌≡◌, ◌⊎◌, inl, inr, ℕ, ◌+◌, Bool, true, false, List, [], ◌∷◌, ◌++◌, length, map, drop, Option, Some, None, refl, sym, ap, ◌∙◌, subst, append_assoc}
+use Rattle.std.proofs.Common.{◌≡◌, ◌⊎◌, inl, inr, ℕ, ◌+◌, Bool, true, false, List, [], ◌∷◌, ◌++◌, length, Option, Some, None, refl, sym, ap, ◌∙◌, subst, append_assoc}
 use Rattle.std.proofs.lemmas.Bool.{true≢false}
 use Rattle.std.proofs.lemmas.List.{map-append}
-use Rattle.vv_vlex.specs.Elements.{Element, Lexeme, id, word, int, char, str, bit_str, sign, finish}
+use Rattle.vv_vlex.specs.Elements.{Element, Lexeme, finish}
 use Rattle.vv_vlex.specs.Lexical.{placed}
 use Rattle.vv_vlex.specs.Words.{word_of, named}
 use Rattle.vv_vlex.specs.declared.word.Word.{Word}
@@ -16,11 +16,10 @@ use Rattle.vv_grammar.specs.declared.step.Take.{Take}
 use Rattle.vv_grammar.specs.declared.step.Take.TheVariants as take
 use Rattle.vv_grammar.specs.declared.terminal.Terminal.{Terminal}
 use Rattle.vv_grammar.specs.declared.terminal.Terminal.TheVariants as terminal
-use Rattle.vv_grammar.specs.Table.{Choice}
 use Rattle.vv_grammar.specs.Terminals.{same}
 use Rattle.vv_grammar_laws.specs.Derivations.{left, Derives, done, make, skip, keep, call, pass, stop, more}
 use Rattle.vv_grammar_laws.specs.Starts.{file, steps_for}
-use Rattle.vv_trans.specs.Parsing.{terminal_of, terminals_of}
+use Rattle.vv_grammar.specs.Terminals.{kind_of_element, terminals_of_elements}
 
 abbrev is_end : Terminal → Bool
 is_end terminal.End = true
@@ -32,7 +31,7 @@ HaveNoEnd (t ∷ ts) = (is_end t ≡ false) × HaveNoEnd ts
 
 abbrev IsNoEnd : Option Element → Type 0
 IsNoEnd None = Unit {0}
-IsNoEnd (Some e) = is_end (terminal_of e) ≡ false
+IsNoEnd (Some e) = is_end (kind_of_element e) ≡ false
 
 name-no-end : (o : Option Word) (text : List ℕ) → IsNoEnd (Some (named o text))
 name-no-end None text = refl
@@ -49,11 +48,11 @@ piece-no-end (string bytes) = refl
 piece-no-end (bits b bytes) = refl
 piece-no-end (mark s) = refl
 
-placed-no-end : (o : Option Element) (at n : ℕ) (ls : List Lexeme) → IsNoEnd o → HaveNoEnd (terminals_of ls) → HaveNoEnd (terminals_of (placed o at n ++ ls))
+placed-no-end : (o : Option Element) (at n : ℕ) (ls : List Lexeme) → IsNoEnd o → HaveNoEnd (terminals_of_elements ls) → HaveNoEnd (terminals_of_elements (placed o at n ++ ls))
 placed-no-end None at n ls h k = k
 placed-no-end (Some e) at n ls h k = (h, k)
 
-pieces-no-end : (at : ℕ) (ps : List Piece) → HaveNoEnd (terminals_of (elements_from at ps))
+pieces-no-end : (at : ℕ) (ps : List Piece) → HaveNoEnd (terminals_of_elements (elements_from at ps))
 pieces-no-end at [] = tt
 pieces-no-end at (p ∷ ps) =
     placed-no-end (element_for p) at (length (text_of p)) (elements_from (at + length (text_of p)) ps) (piece-no-end p) (pieces-no-end (at + length (text_of p)) ps)
@@ -172,10 +171,10 @@ nothing-behind (y ∷ v) (x ∷ front) t z r i n h = nothing-behind v front t z 
 
 -- What is derived as a file from a file's elements on is all of them.
 pub all_derived : (bytes : List ℕ) (ls : List Lexeme) → IsCutOf bytes ls → (e : Edition) (q r : List Terminal) (es : List Event) → Derives e (steps_for file) q es
-    → terminals_of ls ≡ q ++ r → r ≡ []
+    → terminals_of_elements ls ≡ q ++ r → r ≡ []
 all_derived bytes ls cut e q r es d h =
     let x : EndsIn terminal.End q = ends e (steps_for file) q es d terminal.End (inr (inr (inl (refl, refl)))) in
-    let all : terminals_of ls ≡ terminals_of (elements_from 0 cut.pieces) ++ (terminal.End ∷ []) =
-    ap terminals_of (sym cut.elements) ∙ map-append (λ (l : Lexeme). terminal_of l.element) (elements_from 0 cut.pieces) (record { element = finish; at = length bytes; len = 0 } ∷ []) in
-    nothing-behind x.front (terminals_of (elements_from 0 cut.pieces)) x.last terminal.End r (end-is x.last x.is) (pieces-no-end 0 cut.pieces)
+    let all : terminals_of_elements ls ≡ terminals_of_elements (elements_from 0 cut.pieces) ++ (terminal.End ∷ []) =
+    ap terminals_of_elements (sym cut.elements) ∙ map-append (λ (l : Lexeme). kind_of_element l.element) (elements_from 0 cut.pieces) (record { element = finish; at = length bytes; len = 0 } ∷ []) in
+    nothing-behind x.front (terminals_of_elements (elements_from 0 cut.pieces)) x.last terminal.End r (end-is x.last x.is) (pieces-no-end 0 cut.pieces)
     (sym (append_assoc x.front (x.last ∷ []) r) ∙ ap (λ (y : List Terminal). y ++ r) (sym x.whole) ∙ sym h ∙ all)
