@@ -1,5 +1,5 @@
 -- What comes of a state in the end is what the machine comes to.
-use Rattle.std.proofs.Common.{◌≡◌, ℕ, zero, suc, ◌+◌, ◌*◌, ◌<◌, ◌≤◌, length, arith, Bool, true, false, if◌then◌else◌, List, [], ◌∷◌, ◌++◌, Option, Some, None, refl, subst}
+use Rattle.std.proofs.Common.{◌≡◌, ℕ, zero, suc, ◌+◌, ◌*◌, ◌<◌, length, arith, Bool, true, false, if◌then◌else◌, List, [], ◌∷◌, ◌++◌, Option, Some, None, refl, subst}
 use Rattle.vv_grammar.specs.declared.edition.Edition.{Edition}
 use Rattle.vv_grammar.specs.declared.event.Event.{Event}
 use Rattle.vv_grammar.specs.declared.event.Event.TheVariants as event
@@ -96,6 +96,6 @@ unfolding drive
 by_moves e ts K at es =
     going_on_as (λ L b fs. drive (64 * (length ts + length K)) e ts L b fs) (outcome_behind e ts) es at (machine.move e ts K at)
     (λ fs L b i.
-        let h : measure e ts K at < enough ts K = enough_moves e ts K at in
-        let f : measure e ts L b < measure e ts K at = fell_to e ts K L at b fs i in
-        driven_on (64 * (length ts + length K)) (enough ts L) e ts L b (es ++ fs) (omega (arith, h, f)) (enough_moves e ts L b))
+    let h : measure e ts K at < enough ts K = enough_moves e ts K at in
+    let f : measure e ts L b < measure e ts K at = fell_to e ts K L at b fs i in
+    driven_on (64 * (length ts + length K)) (enough ts L) e ts L b (es ++ fs) (omega (arith, h, f)) (enough_moves e ts L b))
