@@ -63,6 +63,7 @@ is_calm_place e p = calm_choices (alternatives e p) && calm_else (otherwise p)
 pub calm-place : (e : Edition) (p : Place) → is_calm_place e p ≡ true
 calm-place e place.Expression = refl
 calm-place e place.ExpressionBehindIdent = refl
+calm-place e place.ExpressionBehindMark = refl
 calm-place e place.Combined = refl
 calm-place e place.MoreAnd = refl
 calm-place e place.MoreOr = refl
@@ -101,7 +102,7 @@ calm-place e place.Range = refl
 calm-place e place.RangeEnd = refl
 calm-place e place.DiscreteRange = refl
 calm-place e place.DiscreteRangeBehindMark = refl
-calm-place e place.MarkParts = refl
+calm-place e place.MarkPart = refl
 calm-place e place.MoreIdents = refl
 calm-place e place.Constraint = refl
 calm-place e place.TypeMark = refl

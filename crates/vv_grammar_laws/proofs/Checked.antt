@@ -9,6 +9,7 @@ use Rattle.vv_grammar_laws.proofs.Check.{check}
 pub checked : (e : Edition) (p : Place) → check e p ≡ true
 checked e place.Expression = refl
 checked e place.ExpressionBehindIdent = refl
+checked e place.ExpressionBehindMark = refl
 checked e place.Combined = refl
 checked e place.MoreAnd = refl
 checked e place.MoreOr = refl
@@ -47,7 +48,7 @@ checked e place.Range = refl
 checked e place.RangeEnd = refl
 checked e place.DiscreteRange = refl
 checked e place.DiscreteRangeBehindMark = refl
-checked e place.MarkParts = refl
+checked e place.MarkPart = refl
 checked e place.MoreIdents = refl
 checked e place.Constraint = refl
 checked e place.TypeMark = refl

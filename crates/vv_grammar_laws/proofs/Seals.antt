@@ -22,6 +22,11 @@ use Rattle.vv_grammar_laws.proofs.Acts.{Acts, made, skipped, kept, chose, passed
 
 abbrev pub is_closed : Place → Bool
 is_closed place.ExpressionBehindIdent = true
+is_closed place.ExpressionBehindMark = true
+is_closed place.DiscreteRange = true
+is_closed place.DiscreteRangeBehindMark = true
+is_closed place.ArrayIndex = true
+is_closed place.ArrayIndexBehindMark = true
 is_closed place.Argument = true
 is_closed place.ArgumentBehindIdent = true
 is_closed place.MoreArguments = true
@@ -58,6 +63,7 @@ is_sealed e p = each_seals (alternatives e p) (is_closed p) && else_seals (other
 pub sealed : (e : Edition) (p : Place) → is_sealed e p ≡ true
 sealed e place.Expression = refl
 sealed e place.ExpressionBehindIdent = refl
+sealed e place.ExpressionBehindMark = refl
 sealed e place.Combined = refl
 sealed e place.MoreAnd = refl
 sealed e place.MoreOr = refl
@@ -96,7 +102,7 @@ sealed e place.Range = refl
 sealed e place.RangeEnd = refl
 sealed e place.DiscreteRange = refl
 sealed e place.DiscreteRangeBehindMark = refl
-sealed e place.MarkParts = refl
+sealed e place.MarkPart = refl
 sealed e place.MoreIdents = refl
 sealed e place.Constraint = refl
 sealed e place.TypeMark = refl

@@ -21,6 +21,7 @@ single e place.BodyDeclaration h = refl
 single e place.ProcessDeclaration h = refl
 single e place.Concurrent h = refl
 single e place.Statement h = refl
+single e place.MarkPart h = refl
 single e _ h = absurd (false≢true h)
 
 pub nothing-else : (p : Place) → is_part p ≡ true → otherwise p ≡ None
@@ -31,6 +32,7 @@ nothing-else place.BodyDeclaration h = refl
 nothing-else place.ProcessDeclaration h = refl
 nothing-else place.Concurrent h = refl
 nothing-else place.Statement h = refl
+nothing-else place.MarkPart h = refl
 nothing-else _ h = absurd (false≢true h)
 
 -- each of its alternatives takes a token
@@ -45,6 +47,7 @@ parts-take e place.BodyDeclaration h = refl
 parts-take e place.ProcessDeclaration h = refl
 parts-take e place.Concurrent h = refl
 parts-take e place.Statement h = refl
+parts-take e place.MarkPart h = refl
 parts-take e _ h = absurd (false≢true h)
 
 pub all-take : (e : Edition) (p : Place) → is_part p ≡ true → (c : Choice) → IsAmong c (alternatives e p) → takes c.take ≡ true
