@@ -58,12 +58,12 @@ place_at : (x : Place) → get_or all.PLACES (tag_of p.the_type x) place.Express
 place_at place.Expression = refl
 place_at _ = refl
 
-place_below : (x : Place) → nat_lt (tag_of p.the_type x) 141 ≡ true
+place_below : (x : Place) → nat_lt (tag_of p.the_type x) 142 ≡ true
 place_below place.Expression = refl
 place_below _ = refl
 
-pub place_in : (x : Place) → tag_of p.the_type x < 141
-place_in x = ltb-true (tag_of p.the_type x) 141 (place_below x)
+pub place_in : (x : Place) → tag_of p.the_type x < 142
+place_in x = ltb-true (tag_of p.the_type x) 142 (place_below x)
 
 terminal_at : (t : Terminal) → get_or all.TERMINALS (number_of t) the.Id ≡ t
 terminal_at (the.Key word.Abs) = refl
@@ -93,7 +93,7 @@ rows-length e (x ∷ xs) =
     let s : length (row e all.TERMINALS x ++ flat_map (row e all.TERMINALS) xs) ≡ length (row e all.TERMINALS x) + length (flat_map (row e all.TERMINALS) xs) = length-append (row e all.TERMINALS x) (flat_map (row e all.TERMINALS) xs) in
     omega (arith, h, r, s)
 
-pub numbers-length : (e : Edition) → length (numbers e) ≡ 17766
+pub numbers-length : (e : Edition) → length (numbers e) ≡ 17892
 unfolding numbers
 numbers-length e = rows-length e all.PLACES
 
@@ -107,7 +107,7 @@ pub number_at : (e : Edition) (x : Place) (t : Terminal) → get_or (numbers e) 
 unfolding numbers
 number_at e x t =
     let i : ℕ = tag_of p.the_type x in
-    let h : tag_of p.the_type x < 141 = place_in x in
+    let h : tag_of p.the_type x < 142 = place_in x in
     let k : number_of t < 126 = terminal_in t in
     let long : length (flat_map (row e all.TERMINALS) (take (tag_of p.the_type x) all.PLACES)) ≡ tag_of p.the_type x * 126 =
     rows-length e (take (tag_of p.the_type x) all.PLACES) ∙ ap (λ (n : ℕ). n * 126) (take-length (tag_of p.the_type x) all.PLACES (omega (arith, h))) in

@@ -6,7 +6,7 @@ use vv_vlex::sign::Sign;
 use vv_vlex::word::Word;
 
 /// How many places there are.
-pub const PLACE_COUNT: usize = 141;
+pub const PLACE_COUNT: usize = 142;
 
 /// How many terminals there are.
 pub const TERMINAL_COUNT: usize = 126;
@@ -15,6 +15,7 @@ pub const TERMINAL_COUNT: usize = 126;
 pub const PLACES: [Place; PLACE_COUNT] = [
     Place::Expression,
     Place::ExpressionBehindIdent,
+    Place::ExpressionBehindMark,
     Place::Combined,
     Place::MoreAnd,
     Place::MoreOr,
@@ -53,7 +54,7 @@ pub const PLACES: [Place; PLACE_COUNT] = [
     Place::RangeEnd,
     Place::DiscreteRange,
     Place::DiscreteRangeBehindMark,
-    Place::MarkParts,
+    Place::MarkPart,
     Place::MoreIdents,
     Place::Constraint,
     Place::TypeMark,
