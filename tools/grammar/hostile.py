@@ -93,6 +93,22 @@ def expressions():
         yield f"{LIMIT} calls, {what}", source(ASSIGN, opened, rest), answer
 
 
+def ranges():
+    """Calls in each other that begin a discrete range: where it begins with a name, this may be a mark."""
+    for place, front, back in [
+        ("a loop", PROCESS + b"for i in ", b" loop end loop; " + END_PROCESS),
+        ("a loop with an end", PROCESS + b"for i in ", b" to 3 loop end loop; " + END_PROCESS),
+        ("a generate", BEGIN + b"g : for i in ", b" generate end generate; end;"),
+        ("an index constraint", DECLARE + b"signal s : t(", b"); begin end;"),
+        ("the index of an array", DECLARE + b"type t is array (", b" downto 0) of u; begin end;"),
+    ]:
+        for what, first in ("f(", b"f("), ("a.b.f(", b"a.b.f("), ("t'(", b"t'("):
+            for depth in LIMIT, LIMIT + 1:
+                answer = "ok" if depth <= LIMIT else at(len(front) + len(first) + 2 * (LIMIT - 1), "Y2")
+                text = source(front, first, (b"f(", depth - 2), b"a", (b")", depth - 1), back)
+                yield f"{place}, {what}, depth {depth}", text, answer
+
+
 def statements():
     """Statements in each other. The process is the first level, so `count` statements are `count + 1` levels."""
     start = len(PROCESS)
@@ -340,5 +356,5 @@ def sizes():
 
 
 def cases():
-    for group in expressions, statements, concurrent, functions, last_functions, last_functions_elsewhere, lists, sizes:
+    for group in expressions, ranges, statements, concurrent, functions, last_functions, last_functions_elsewhere, lists, sizes:
         yield from group()

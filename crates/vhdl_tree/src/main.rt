@@ -6,7 +6,6 @@
 #![tactic(auto)]
 
 mod print;
-mod shape;
 mod tree;
 
 use crate::print::lines;

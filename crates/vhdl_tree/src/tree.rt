@@ -1,9 +1,9 @@
 //! The tree that the events of a reading make of its tokens.
 
-use crate::shape::{Shape, shape_of};
 use std::alloc::{AllocError, Global};
 use vv_grammar::event::Event;
 use vv_grammar::form::Form;
+use vv_grammar::shape::Shape;
 
 /// What stands at a node.
 #[derive(Clone, Copy, Debug, PartialEq, Eq)]
@@ -83,7 +83,7 @@ impl Tree {
     }
 
     fn make(&mut self, alloc: Global, form: Form) -> Result<(), AllocError> {
-        match shape_of(form) {
+        match form.shape() {
             Shape::Same => Ok(()),
             Shape::Absent => self.add(Label::Absent, Vec::new(alloc)),
             Shape::Empty => self.add(Label::List, Vec::new(alloc)),

@@ -1,5 +1,5 @@
 -- What has been gone through goes on by a move that was made.
-use Rattle.std.proofs.Common.{◌≡◌, ◌∙◌, [], ℕ, suc, ◌+◌, ◌-◌, ◌<◌, refl, sym, arith, List, ◌++◌}
+use Rattle.std.proofs.Common.{◌≡◌, ◌∙◌, [], ℕ, suc, ◌<◌, refl, sym, arith, List, ◌++◌}
 use Rattle.vv_grammar.specs.declared.terminal.Terminal.{Terminal}
 use Rattle.vv_grammar.specs.declared.edition.Edition.{Edition}
 use Rattle.vv_grammar.specs.declared.machine.State.{State}

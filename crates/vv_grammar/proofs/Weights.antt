@@ -1,5 +1,5 @@
 -- Each move that takes no token makes what is to come lighter, and one that takes a token adds less than the token was worth: so the moves end.
-use Rattle.std.proofs.Common.{◌≡◌, ℕ, zero, suc, ◌+◌, ◌-◌, ◌*◌, ◌<◌, ◌≤◌, max, nat_lt, Bool, true, false, ◌&&◌, if◌then◌else◌, List, [], ◌∷◌, ◌++◌, length, Option, Some, None, slice_get, refl, sym, ap, ◌∙◌, subst, arith}
+use Rattle.std.proofs.Common.{◌≡◌, ℕ, zero, suc, ◌+◌, ◌-◌, ◌*◌, ◌<◌, ◌≤◌, max, nat_lt, Bool, true, false, ◌&&◌, if◌then◌else◌, List, [], ◌∷◌, ◌++◌, length, Option, Some, None, refl, sym, ap, ◌∙◌, subst, arith}
 use Rattle.std.proofs.lemmas.Bool.{true≢false, and_parts}
 use Rattle.std.proofs.lemmas.Option.{slice_get_within}
 use borrow.Author.Tests.{ltb-true}
@@ -18,7 +18,7 @@ use Rattle.vv_grammar.specs.declared.step.Take.TheVariants as take
 use Rattle.vv_grammar.specs.declared.terminal.Terminal.{Terminal}
 use Rattle.vv_grammar.specs.Terminals.{same, contains}
 use Rattle.vv_grammar.specs.Table.{Choice, alternatives, otherwise, level_of}
-use Rattle.vv_grammar.specs.Machine.{Turn, turn, choose, chosen, as_part, takes, Move, goes, stuck, deep, over, next_terminal, inside, starting, as_step, begun, steps_in, taking, entering, turning, called, repeated, token, move_of, move, drive, going, Outcome, enough}
+use Rattle.vv_grammar.specs.Machine.{Turn, turn, choose, chosen, as_part, takes, Move, goes, stuck, deep, over, next_terminal, inside, starting, as_step, begun, steps_in, taking, entering, called, repeated, token, move_of, move, drive, going, Outcome, enough}
 
 -- what a step weighs, by the weights of places
 abbrev pub weigh_step : (Place → ℕ) → Step → ℕ

@@ -28,6 +28,7 @@ choice on take steps = record { on = on; take = take; steps = steps }
 abbrev pub alternatives : Edition → Place → List Choice
 alternatives e place.Expression = map (λ a. choice a.0.now a.1 a.2.now) expressions.EXPRESSION
 alternatives e place.ExpressionBehindIdent = map (λ a. choice a.0.now a.1 a.2.now) expressions.EXPRESSION_BEHIND_IDENT
+alternatives e place.ExpressionBehindMark = map (λ a. choice a.0.now a.1 a.2.now) expressions.EXPRESSION_BEHIND_MARK
 alternatives e place.Combined = map (λ a. choice a.0.now a.1 a.2.now) expressions.COMBINED
 alternatives e place.MoreAnd = map (λ a. choice a.0.now a.1 a.2.now) expressions.MORE_AND
 alternatives e place.MoreOr = map (λ a. choice a.0.now a.1 a.2.now) expressions.MORE_OR
@@ -66,7 +67,7 @@ alternatives e place.Range = []
 alternatives e place.RangeEnd = map (λ a. choice a.0.now a.1 a.2.now) subtypes.RANGE_END
 alternatives e place.DiscreteRange = map (λ a. choice a.0.now a.1 a.2.now) subtypes.DISCRETE_RANGE
 alternatives e place.DiscreteRangeBehindMark = map (λ a. choice a.0.now a.1 a.2.now) subtypes.DISCRETE_RANGE_BEHIND_MARK
-alternatives e place.MarkParts = map (λ a. choice a.0.now a.1 a.2.now) subtypes.MARK_PARTS
+alternatives e place.MarkPart = map (λ a. choice a.0.now a.1 a.2.now) subtypes.MARK_PART
 alternatives e place.MoreIdents = map (λ a. choice a.0.now a.1 a.2.now) subtypes.MORE_IDENTS
 alternatives e place.Constraint = map (λ a. choice a.0.now a.1 a.2.now) subtypes.CONSTRAINT
 alternatives e place.TypeMark = map (λ a. choice a.0.now a.1 a.2.now) subtypes.TYPE_MARK
@@ -172,6 +173,7 @@ alternatives e place.UseRest = []
 abbrev pub otherwise : Place → Option (List Step)
 otherwise place.Expression = None
 otherwise place.ExpressionBehindIdent = None
+otherwise place.ExpressionBehindMark = None
 otherwise place.Combined = Some []
 otherwise place.MoreAnd = Some []
 otherwise place.MoreOr = Some []
@@ -210,7 +212,7 @@ otherwise place.Range = Some subtypes.RANGE_ELSE
 otherwise place.RangeEnd = Some subtypes.RANGE_END_ELSE
 otherwise place.DiscreteRange = None
 otherwise place.DiscreteRangeBehindMark = Some subtypes.DISCRETE_RANGE_BEHIND_MARK_ELSE
-otherwise place.MarkParts = Some []
+otherwise place.MarkPart = None
 otherwise place.MoreIdents = Some []
 otherwise place.Constraint = Some subtypes.CONSTRAINT_ELSE
 otherwise place.TypeMark = None
@@ -315,6 +317,7 @@ otherwise place.UseRest = Some units.USE_REST_ELSE
 abbrev pub level_of : Place → Level
 level_of place.Expression = level.Expression
 level_of place.ExpressionBehindIdent = level.ExpressionBehind
+level_of place.ExpressionBehindMark = level.ExpressionBehind
 level_of place.FunctionBody = level.StatementBehind
 level_of place.Concurrent = level.Statement
 level_of place.Statement = level.Statement

@@ -1,5 +1,6 @@
--- What the grammar sees of a token.
+-- What the grammar sees of a token, and of a lexical element.
 use Rattle.std.specs.Prelude.{Bool, true, false, nat_eq, ◌||◌, List, [], ◌∷◌, map}
+use Rattle.vv_vlex.specs.Elements.{Element, Lexeme, id, word, int, char, str, bit_str, sign, finish}
 use Rattle.vv_vlex.specs.declared.token.Token.{Token}
 use Rattle.vv_vlex.specs.declared.token.TokenKind.{TokenKind}
 use Rattle.vv_vlex.specs.declared.token.TokenKind.TheVariants as kind
@@ -21,6 +22,19 @@ kind_of kind.End = the.End
 
 abbrev pub terminals_of : List Token → List Terminal
 terminals_of ts = map (λ t. kind_of t.kind) ts
+
+abbrev pub kind_of_element : Element → Terminal
+kind_of_element (id text) = the.Id
+kind_of_element (word w) = the.Key w
+kind_of_element (int n) = the.Int
+kind_of_element (char b) = the.Char
+kind_of_element (str written bytes) = the.Str
+kind_of_element (bit_str text) = the.BitStr
+kind_of_element (sign s) = the.Mark s
+kind_of_element finish = the.End
+
+abbrev pub terminals_of_elements : List Lexeme → List Terminal
+terminals_of_elements ls = map (λ l. kind_of_element l.element) ls
 
 abbrev pub same : Terminal → Terminal → Bool
 same the.Id the.Id = true

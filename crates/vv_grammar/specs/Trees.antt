@@ -6,6 +6,8 @@ use Rattle.vv_grammar.specs.declared.event.Event.{Event}
 use Rattle.vv_grammar.specs.declared.event.Event.TheVariants as event
 use Rattle.vv_grammar.specs.declared.form.Form.{Form}
 use Rattle.vv_grammar.specs.declared.form.Form.TheVariants as form
+use Rattle.vv_grammar.specs.declared.shape.Shape.{Shape}
+use Rattle.vv_grammar.specs.declared.shape.Shape.TheVariants as shape
 
 mutual
   pub data Tree : Type 0 where
@@ -42,123 +44,110 @@ abbrev mutual
 abbrev pub up_to : Span → ℕ → Span
 up_to last at = record { file = last.file; at = at; len = last.at + last.len - at }
 
--- How a form makes one value of the last ones.
-pub data Shape : Type 0 where
-  absent_shape : Shape
-  empty_shape : Shape
-  add_shape : Shape
-  one_shape : Shape
-  -- the value stays as it is
-  same_shape : Shape
-  bare_shape : Shape
-  -- a node of so many parts
-  parts : ℕ → Shape
-  -- a node of so many parts, behind a token that tells only where it starts
-  opened : ℕ → Shape
-
+-- how a form makes one value of the last ones
 abbrev pub shape_of : Form → Shape
-shape_of form.Absent = absent_shape
-shape_of form.Empty = empty_shape
-shape_of form.Add = add_shape
-shape_of form.One = one_shape
-shape_of form.Name = parts 2
-shape_of form.SelectedPart = same_shape
-shape_of form.Arguments = opened 1
-shape_of form.Attribute = opened 1
-shape_of form.RangeAttribute = opened 0
-shape_of form.Qualified = opened 1
-shape_of form.Positional = same_shape
-shape_of form.Named = parts 2
-shape_of form.Literal = same_shape
-shape_of form.Parentheses = opened 1
-shape_of form.Aggregate = opened 1
-shape_of form.Element = same_shape
-shape_of form.BoundElement = parts 2
-shape_of form.Others = opened 0
-shape_of form.Single = same_shape
-shape_of form.Only = same_shape
-shape_of form.Range = parts 3
-shape_of form.Power = parts 2
-shape_of form.Abs = opened 1
-shape_of form.Not = opened 1
-shape_of form.Operand = parts 2
-shape_of form.Product = parts 2
-shape_of form.Signed = parts 2
-shape_of form.Sum = parts 2
-shape_of form.Shift = parts 3
-shape_of form.Relation = parts 3
-shape_of form.Logic = parts 2
-shape_of form.Mark = parts 2
-shape_of form.Discrete = same_shape
-shape_of form.MarkRange = parts 2
-shape_of form.IndexConstraint = parts 1
-shape_of form.RangeConstraint = parts 1
-shape_of form.Subtype = parts 2
-shape_of form.Type = opened 2
-shape_of form.Enumeration = opened 1
-shape_of form.Array = opened 2
-shape_of form.Unbounded = parts 1
-shape_of form.Bounded = same_shape
-shape_of form.SubtypeDeclaration = opened 2
-shape_of form.Constant = opened 3
-shape_of form.Signal = opened 3
-shape_of form.Variable = opened 3
-shape_of form.FunctionSpecification = parts 4
-shape_of form.FunctionDeclaration = parts 1
-shape_of form.FunctionBody = parts 4
-shape_of form.ConstantInterface = parts 3
-shape_of form.PortInterface = parts 4
-shape_of form.ComponentDeclaration = opened 4
-shape_of form.AttributeDeclaration = opened 2
-shape_of form.AttributeSpecification = opened 4
-shape_of form.SelectedName = parts 3
-shape_of form.Use = opened 1
-shape_of form.UseDeclaration = same_shape
-shape_of form.UseContext = same_shape
-shape_of form.Library = opened 1
-shape_of form.Process = opened 4
-shape_of form.Unlisted = absent_shape
-shape_of form.Listed = parts 1
-shape_of form.AllSignals = opened 0
-shape_of form.Conditional = parts 2
-shape_of form.Waveform = same_shape
-shape_of form.ConditionalWaveform = parts 2
-shape_of form.Select = opened 3
-shape_of form.Selection = parts 2
-shape_of form.Assertion = opened 3
-shape_of form.ConcurrentAssertion = same_shape
-shape_of form.SequentialAssertion = same_shape
-shape_of form.Component = same_shape
-shape_of form.EntityInstance = opened 2
-shape_of form.Instance = parts 3
-shape_of form.Open = opened 0
-shape_of form.Given = same_shape
-shape_of form.PositionalAssociation = same_shape
-shape_of form.NamedAssociation = parts 2
-shape_of form.ForGenerate = opened 5
-shape_of form.IfGenerate = opened 4
-shape_of form.Labelled = parts 2
-shape_of form.Assignment = parts 3
-shape_of form.If = opened 3
-shape_of form.IfArm = parts 2
-shape_of form.Case = opened 3
-shape_of form.CaseArm = parts 2
-shape_of form.For = opened 4
-shape_of form.While = opened 3
-shape_of form.Loop = opened 2
-shape_of form.Exit = opened 2
-shape_of form.Next = opened 2
-shape_of form.Return = opened 1
-shape_of form.Null = opened 0
-shape_of form.Wait = opened 1
-shape_of form.ReportStatement = opened 2
-shape_of form.LabelledStatement = parts 2
-shape_of form.Entity = opened 4
-shape_of form.Architecture = opened 5
-shape_of form.Package = opened 3
-shape_of form.PackageBody = opened 3
-shape_of form.Unit = parts 2
-shape_of form.Bare = bare_shape
+shape_of form.Absent = shape.Absent
+shape_of form.Empty = shape.Empty
+shape_of form.Add = shape.Add
+shape_of form.One = shape.One
+shape_of form.Name = shape.Parts 2
+shape_of form.SelectedPart = shape.Same
+shape_of form.Arguments = shape.Opened 1
+shape_of form.Attribute = shape.Opened 1
+shape_of form.RangeAttribute = shape.Opened 0
+shape_of form.Qualified = shape.Opened 1
+shape_of form.Positional = shape.Same
+shape_of form.Named = shape.Parts 2
+shape_of form.Literal = shape.Same
+shape_of form.Parentheses = shape.Opened 1
+shape_of form.Aggregate = shape.Opened 1
+shape_of form.Element = shape.Same
+shape_of form.BoundElement = shape.Parts 2
+shape_of form.Others = shape.Opened 0
+shape_of form.Single = shape.Same
+shape_of form.Only = shape.Same
+shape_of form.Range = shape.Parts 3
+shape_of form.Power = shape.Parts 2
+shape_of form.Abs = shape.Opened 1
+shape_of form.Not = shape.Opened 1
+shape_of form.Operand = shape.Parts 2
+shape_of form.Product = shape.Parts 2
+shape_of form.Signed = shape.Parts 2
+shape_of form.Sum = shape.Parts 2
+shape_of form.Shift = shape.Parts 3
+shape_of form.Relation = shape.Parts 3
+shape_of form.Logic = shape.Parts 2
+shape_of form.Mark = shape.Parts 2
+shape_of form.Discrete = shape.Same
+shape_of form.MarkRange = shape.Parts 2
+shape_of form.IndexConstraint = shape.Parts 1
+shape_of form.RangeConstraint = shape.Parts 1
+shape_of form.Subtype = shape.Parts 2
+shape_of form.Type = shape.Opened 2
+shape_of form.Enumeration = shape.Opened 1
+shape_of form.Array = shape.Opened 2
+shape_of form.Unbounded = shape.Parts 1
+shape_of form.Bounded = shape.Same
+shape_of form.SubtypeDeclaration = shape.Opened 2
+shape_of form.Constant = shape.Opened 3
+shape_of form.Signal = shape.Opened 3
+shape_of form.Variable = shape.Opened 3
+shape_of form.FunctionSpecification = shape.Parts 4
+shape_of form.FunctionDeclaration = shape.Parts 1
+shape_of form.FunctionBody = shape.Parts 4
+shape_of form.ConstantInterface = shape.Parts 3
+shape_of form.PortInterface = shape.Parts 4
+shape_of form.ComponentDeclaration = shape.Opened 4
+shape_of form.AttributeDeclaration = shape.Opened 2
+shape_of form.AttributeSpecification = shape.Opened 4
+shape_of form.SelectedName = shape.Parts 3
+shape_of form.Use = shape.Opened 1
+shape_of form.UseDeclaration = shape.Same
+shape_of form.UseContext = shape.Same
+shape_of form.Library = shape.Opened 1
+shape_of form.Process = shape.Opened 4
+shape_of form.Unlisted = shape.Absent
+shape_of form.Listed = shape.Parts 1
+shape_of form.AllSignals = shape.Opened 0
+shape_of form.Conditional = shape.Parts 2
+shape_of form.Waveform = shape.Same
+shape_of form.ConditionalWaveform = shape.Parts 2
+shape_of form.Select = shape.Opened 3
+shape_of form.Selection = shape.Parts 2
+shape_of form.Assertion = shape.Opened 3
+shape_of form.ConcurrentAssertion = shape.Same
+shape_of form.SequentialAssertion = shape.Same
+shape_of form.Component = shape.Same
+shape_of form.EntityInstance = shape.Opened 2
+shape_of form.Instance = shape.Parts 3
+shape_of form.Open = shape.Opened 0
+shape_of form.Given = shape.Same
+shape_of form.PositionalAssociation = shape.Same
+shape_of form.NamedAssociation = shape.Parts 2
+shape_of form.ForGenerate = shape.Opened 5
+shape_of form.IfGenerate = shape.Opened 4
+shape_of form.Labelled = shape.Parts 2
+shape_of form.Assignment = shape.Parts 3
+shape_of form.If = shape.Opened 3
+shape_of form.IfArm = shape.Parts 2
+shape_of form.Case = shape.Opened 3
+shape_of form.CaseArm = shape.Parts 2
+shape_of form.For = shape.Opened 4
+shape_of form.While = shape.Opened 3
+shape_of form.Loop = shape.Opened 2
+shape_of form.Exit = shape.Opened 2
+shape_of form.Next = shape.Opened 2
+shape_of form.Return = shape.Opened 1
+shape_of form.Null = shape.Opened 0
+shape_of form.Wait = shape.Opened 1
+shape_of form.ReportStatement = shape.Opened 2
+shape_of form.LabelledStatement = shape.Parts 2
+shape_of form.Entity = shape.Opened 4
+shape_of form.Architecture = shape.Opened 5
+shape_of form.Package = shape.Opened 3
+shape_of form.PackageBody = shape.Opened 3
+shape_of form.Unit = shape.Parts 2
+shape_of form.Bare = shape.Bare
 
 -- a node of n values and of the parts behind them
 abbrev pub node_of : ℕ → Form → Span → Trees → List Tree → List Tree
@@ -176,17 +165,17 @@ opened_of (suc n) f last ts [] = []
 opened_of (suc n) f last ts (t ∷ V) = opened_of n f last (more t ts) V
 
 abbrev pub by_shape : Shape → Form → Span → List Tree → List Tree
-by_shape absent_shape f last V = absent ∷ V
-by_shape empty_shape f last V = list none ∷ V
-by_shape add_shape f last (t ∷ list ts ∷ V) = list (joined ts (more t none)) ∷ V
-by_shape add_shape f last V = V
-by_shape one_shape f last (t ∷ V) = list (more t none) ∷ V
-by_shape one_shape f last [] = []
-by_shape same_shape f last V = V
-by_shape bare_shape f last (t ∷ V) = node form.Unit (more (list none) (more t none)) (up_to last (start t last.at)) ∷ V
-by_shape bare_shape f last [] = []
-by_shape (parts n) f last V = node_of n f last none V
-by_shape (opened n) f last V = opened_of n f last none V
+by_shape shape.Absent f last V = absent ∷ V
+by_shape shape.Empty f last V = list none ∷ V
+by_shape shape.Add f last (t ∷ list ts ∷ V) = list (joined ts (more t none)) ∷ V
+by_shape shape.Add f last V = V
+by_shape shape.One f last (t ∷ V) = list (more t none) ∷ V
+by_shape shape.One f last [] = []
+by_shape shape.Same f last V = V
+by_shape shape.Bare f last (t ∷ V) = node form.Unit (more (list none) (more t none)) (up_to last (start t last.at)) ∷ V
+by_shape shape.Bare f last [] = []
+by_shape (shape.Parts n) f last V = node_of n f last none V
+by_shape (shape.Opened n) f last V = opened_of n f last none V
 
 -- What a form makes of the values that were made last; the newest stands first. The token that was read last ends it.
 abbrev pub make : Form → Span → List Tree → List Tree

@@ -1,17 +1,19 @@
 //! The machine that goes by the table.
 
-ghost use Rattle.std.specs.Prelude.{◌≡◌, ◌++◌, ◌∷◌, ◌+◌, ◌<◌, ◌≤◌, [], map, option_map, length, IfSome, IfOk, IfErr, OnOk};
+ghost use Rattle.std.specs.Prelude.{◌≡◌, ◌++◌, ◌∷◌, ◌+◌, ◌<◌, ◌≤◌, [], option_map, length, IfOk, IfErr, OnOk};
+ghost use Rattle.vv_grammar.specs.Jumps.{turn_of};
 ghost use Rattle.vv_grammar.specs.Machine as spec;
 ghost use Rattle.vv_grammar.specs.Table as table;
 
 use crate::edition::Edition;
 use crate::event::Event;
 use crate::form::Form;
+use crate::jumps::Jumps;
 use crate::place::Place;
 use crate::rows::{alternatives, level, otherwise};
 use crate::stack::{Pending, Stack};
-use crate::step::{Alternative, Level, Step, Take, Turn};
-use crate::terminal::{Terminal, is_among, is_same};
+use crate::step::{Alternative, Level, Step, Take};
+use crate::terminal::{Terminal, is_same};
 use std::alloc::{AllocError, AllocFailed, Global};
 use vv_base::fault::Memory;
 
@@ -79,29 +81,25 @@ fn next_terminal(tokens: &[Terminal], at: usize) -> Option<Terminal>
     }
 }
 
-/// The first alternative that has the terminal.
-fn choose(rows: &[Alternative], terminal: Terminal) -> Option<Turn>
-    ensures { option_map (λ t. spec.turn t.0 t.1.now) result ≡ spec.choose (map (λ a. table.choice a.0.now a.1 a.2.now) rows.now) terminal }
+/// The number of the alternative by which a place goes on at the next token, from 1 on, or 0. Where it is not 0, there is a next token.
+fn chosen(jumps: &Jumps, place: Place, tokens: &[Terminal], at: usize) -> usize
+    ensures turn { turn_of (table.alternatives jumps.now.edition place) result ≡ spec.chosen jumps.now.edition place (spec.next_terminal tokens.now at) }
+    ensures within { 0 < result → at < length tokens.now }
+    ensures below { result ≤ length (table.alternatives jumps.now.edition place) }
 {
-    let mut rest = rows;
-    'rows: while let [row, more @ ..] = rest {
-        if is_among(terminal, row.0) {
-            return Some((row.1, row.2));
-        }
-        rest = more;
+    match tokens.get(at) {
+        Some(terminal) => jumps.at(place, *terminal),
+        None => 0,
     }
-    None
 }
 
-/// The turn that the next token chooses at a place. Where there is one, there is a next token.
-fn chosen(edition: Edition, place: Place, tokens: &[Terminal], at: usize) -> Option<Turn>
-    ensures turn { option_map (λ t. spec.turn t.0 t.1.now) result ≡ spec.chosen edition place (spec.next_terminal tokens.now at) }
-    ensures within { IfSome result (λ t. at < length tokens.now) }
+/// The alternative of a place with this number.
+fn alternative(edition: Edition, place: Place, number: usize) -> &'static Alternative
+    requires some { 0 < number }
+    requires below { number ≤ length (table.alternatives edition place) }
+    ensures { Some (spec.turn result.now.1 result.now.2.now) ≡ turn_of (table.alternatives edition place) number }
 {
-    match next_terminal(tokens, at) {
-        Some(terminal) => choose(alternatives(edition, place), terminal),
-        None => None,
-    }
+    &alternatives(edition, place)[number - 1]
 }
 
 /// The same step at one level of expressions less, if there is one.
@@ -173,10 +171,16 @@ fn pass(state: &mut State, tokens: &[Terminal], event: Event) -> Result<(), Stop
     Ok(())
 }
 
-/// Makes a turn: its token is taken or not, and its steps are to come.
-fn take(state: &mut State, tokens: &[Terminal], turn: Turn, around: Pending) -> Result<(), Stop>
+/// Takes the next token or not, and its steps are to come.
+fn take(
+    state: &mut State,
+    tokens: &[Terminal],
+    take: Take,
+    steps: &[Step],
+    around: Pending,
+) -> Result<(), Stop>
     requires { state.old.at < length tokens.now }
-    ensures ok { OnOk result (spec.Moved state.old state.new (spec.taking turn.entry.0 state.old.at turn.entry.1.now around state.old.stack)) }
+    ensures ok { OnOk result (spec.Moved state.old state.new (spec.taking take state.old.at steps.now around state.old.stack)) }
     ensures err { IfErr result (λ s. s ≡ Stop.Memory) }
 {
     let inner = Pending {
@@ -185,35 +189,35 @@ fn take(state: &mut State, tokens: &[Terminal], turn: Turn, around: Pending) -> 
         statements: around.statements,
         began: state.at,
     };
-    match turn.0 {
+    match take {
         Take::Keep => {
             pass(state, tokens, Event::Keep)?;
-            Ok(state.stack.push_steps(turn.1, inner)?)
+            Ok(state.stack.push_steps(steps, inner)?)
         }
         Take::Skip => {
             pass(state, tokens, Event::Skip)?;
-            Ok(state.stack.push_steps(turn.1, inner)?)
+            Ok(state.stack.push_steps(steps, inner)?)
         }
-        Take::Look => Ok(state.stack.push_steps(turn.1, around)?),
+        Take::Look => Ok(state.stack.push_steps(steps, around)?),
     }
 }
 
-/// Makes a turn at a place, where it is not too deep.
+/// Goes on at a place by an alternative, where it is not too deep.
 fn turn_at(
     state: &mut State,
     tokens: &[Terminal],
     place: Place,
-    turn: Turn,
+    turn: &Alternative,
     pending: Pending,
 ) -> Result<(), Stop>
     requires { state.old.at < length tokens.now }
-    ensures ok { OnOk result (spec.Moved state.old state.new (spec.turning place (spec.turn turn.entry.0 turn.entry.1.now) pending state.old.at state.old.stack)) }
-    ensures err { IfErr result (λ s. spec.IsStop s state.old.at (spec.turning place (spec.turn turn.entry.0 turn.entry.1.now) pending state.old.at state.old.stack)) }
+    ensures ok { OnOk result (spec.Moved state.old state.new (spec.turning place (spec.turn turn.now.1 turn.now.2.now) pending state.old.at state.old.stack)) }
+    ensures err { IfErr result (λ s. spec.IsStop s state.old.at (spec.turning place (spec.turn turn.now.1 turn.now.2.now) pending state.old.at state.old.stack)) }
 {
     let level = level(place);
     match inside(level, pending) {
         None => Err(Stop::Deep(starting(level, pending, state.at))),
-        Some(around) => take(state, tokens, turn, around),
+        Some(around) => take(state, tokens, turn.1, turn.2, around),
     }
 }
 
@@ -235,50 +239,56 @@ fn token(state: &mut State, tokens: &[Terminal], event: Event, wanted: Terminal)
 
 /// What a place admits at the next token.
 fn call(
-    edition: Edition,
+    jumps: &Jumps,
     tokens: &[Terminal],
     state: &mut State,
     place: Place,
     pending: Pending,
 ) -> Result<(), Stop>
-    ensures ok { OnOk result (spec.Moved state.old state.new (spec.called (spec.chosen edition place (spec.next_terminal tokens.now state.old.at)) (table.otherwise place) place pending state.old.at state.old.stack)) }
-    ensures err { IfErr result (λ s. spec.IsStop s state.old.at (spec.called (spec.chosen edition place (spec.next_terminal tokens.now state.old.at)) (table.otherwise place) place pending state.old.at state.old.stack)) }
+    ensures ok { OnOk result (spec.Moved state.old state.new (spec.called (spec.chosen jumps.now.edition place (spec.next_terminal tokens.now state.old.at)) (table.otherwise place) place pending state.old.at state.old.stack)) }
+    ensures err { IfErr result (λ s. spec.IsStop s state.old.at (spec.called (spec.chosen jumps.now.edition place (spec.next_terminal tokens.now state.old.at)) (table.otherwise place) place pending state.old.at state.old.stack)) }
 {
-    match chosen(edition, place, tokens, state.at) {
-        Some(turn) => turn_at(state, tokens, place, turn, pending),
-        None => match otherwise(place) {
+    match chosen(jumps, place, tokens, state.at) {
+        0 => match otherwise(place) {
             Some(steps) => Ok(state.stack.push_steps(steps, pending)?),
             None => Err(Stop::Misplaced(state.at)),
         },
+        number => {
+            let turn = alternative(jumps.edition, place, number);
+            turn_at(state, tokens, place, turn, pending)
+        }
     }
 }
 
-/// The turn by which a list of what a place admits goes on at the next token: one that takes it.
-fn part(edition: Edition, place: Place, tokens: &[Terminal], at: usize) -> Option<Turn>
-    ensures turn { option_map (λ t. spec.turn t.0 t.1.now) result ≡ spec.as_part (spec.chosen edition place (spec.next_terminal tokens.now at)) }
-    ensures within { IfSome result (λ t. at < length tokens.now) }
+/// Whether the token that chooses an alternative is taken.
+fn takes(take: Take) -> bool
+    ensures { result ≡ spec.takes take }
 {
-    let turn = chosen(edition, place, tokens, at)?;
-    match turn.0 {
-        Take::Keep => Some(turn),
-        Take::Skip => Some(turn),
-        Take::Look => None,
+    match take {
+        Take::Keep => true,
+        Take::Skip => true,
+        Take::Look => false,
     }
 }
 
 /// What a place admits at the next token once more, or nothing.
 fn repeat(
-    edition: Edition,
+    jumps: &Jumps,
     tokens: &[Terminal],
     state: &mut State,
     place: Place,
     pending: Pending,
 ) -> Result<(), Stop>
-    ensures ok { OnOk result (spec.Moved state.old state.new (spec.repeated (spec.as_part (spec.chosen edition place (spec.next_terminal tokens.now state.old.at))) place pending state.old.at state.old.stack)) }
-    ensures err { IfErr result (λ s. spec.IsStop s state.old.at (spec.repeated (spec.as_part (spec.chosen edition place (spec.next_terminal tokens.now state.old.at))) place pending state.old.at state.old.stack)) }
+    ensures ok { OnOk result (spec.Moved state.old state.new (spec.repeated (spec.as_part (spec.chosen jumps.now.edition place (spec.next_terminal tokens.now state.old.at))) place pending state.old.at state.old.stack)) }
+    ensures err { IfErr result (λ s. spec.IsStop s state.old.at (spec.repeated (spec.as_part (spec.chosen jumps.now.edition place (spec.next_terminal tokens.now state.old.at))) place pending state.old.at state.old.stack)) }
 {
-    match part(edition, place, tokens, state.at) {
-        Some(turn) => {
+    match chosen(jumps, place, tokens, state.at) {
+        0 => Ok(()),
+        number => {
+            let turn = alternative(jumps.edition, place, number);
+            if !takes(turn.1) {
+                return Ok(());
+            }
             state.stack.push(pending)?;
             state.stack.push(Pending {
                 step: Step::Make(Form::Add),
@@ -288,23 +298,22 @@ fn repeat(
             })?;
             turn_at(state, tokens, place, turn, pending)
         }
-        None => Ok(()),
     }
 }
 
 /// One move.
 fn advance(
-    edition: Edition,
+    jumps: &Jumps,
     tokens: &[Terminal],
     state: &mut State,
     pending: Pending,
 ) -> Result<(), Stop>
-    ensures ok { OnOk result (spec.Moved state.old state.new (spec.move edition tokens.now (pending ∷ state.old.stack) state.old.at)) }
-    ensures err { IfErr result (λ s. spec.IsStop s state.old.at (spec.move edition tokens.now (pending ∷ state.old.stack) state.old.at)) }
+    ensures ok { OnOk result (spec.Moved state.old state.new (spec.move jumps.now.edition tokens.now (pending ∷ state.old.stack) state.old.at)) }
+    ensures err { IfErr result (λ s. spec.IsStop s state.old.at (spec.move jumps.now.edition tokens.now (pending ∷ state.old.stack) state.old.at)) }
 {
     match pending.step {
-        Step::Call(place) => call(edition, tokens, state, place, pending),
-        Step::Many(place) => repeat(edition, tokens, state, place, pending),
+        Step::Call(place) => call(jumps, tokens, state, place, pending),
+        Step::Many(place) => repeat(jumps, tokens, state, place, pending),
         Step::Skip(wanted) => token(state, tokens, Event::Skip, wanted),
         Step::Keep(wanted) => token(state, tokens, Event::Keep, wanted),
         Step::Make(form) => Ok(state.events.push(Event::Make(form))?),
@@ -344,9 +353,10 @@ pub fn run(
     ensures stopped { IfErr result (λ s. spec.IsOutcome s (spec.outcome edition tokens.now (spec.starting_with steps.now at) at)) }
     ensures halts { IfErr result (λ s. spec.Stops edition tokens.now (spec.starting_with steps.now at) at s) }
 {
+    let jumps = Jumps::new(alloc, edition)?;
     let mut state = begin(alloc, steps, at)?;
     'moves: while let Some(pending) = state.stack.pop() {
-        advance(edition, tokens, &mut state, pending)?;
+        advance(&jumps, tokens, &mut state, pending)?;
     }
     Ok(Reading {
         events: state.events,

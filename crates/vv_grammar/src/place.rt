@@ -7,6 +7,8 @@ pub enum Place {
     Expression,
     /// An expression whose first identifier was read, at what can follow that identifier.
     ExpressionBehindIdent,
+    /// An expression that a name begins which was read as far as it can be a mark.
+    ExpressionBehindMark,
     /// A logical operator and the relations behind it.
     Combined,
     MoreAnd,
@@ -64,7 +66,8 @@ pub enum Place {
     DiscreteRange,
     /// A name was read as far as it can be a mark.
     DiscreteRangeBehindMark,
-    MarkParts,
+    /// A part of a mark behind its first identifier.
+    MarkPart,
     MoreIdents,
     Constraint,
     /// A type mark: identifiers with dots between them.

@@ -15,6 +15,7 @@ pub fn alternatives(edition: Edition, place: Place) -> &'static [Alternative]
     match place {
         Place::Expression => &expressions::EXPRESSION,
         Place::ExpressionBehindIdent => &expressions::EXPRESSION_BEHIND_IDENT,
+        Place::ExpressionBehindMark => &expressions::EXPRESSION_BEHIND_MARK,
         Place::Combined => &expressions::COMBINED,
         Place::MoreAnd => &expressions::MORE_AND,
         Place::MoreOr => &expressions::MORE_OR,
@@ -53,7 +54,7 @@ pub fn alternatives(edition: Edition, place: Place) -> &'static [Alternative]
         Place::RangeEnd => &subtypes::RANGE_END,
         Place::DiscreteRange => &subtypes::DISCRETE_RANGE,
         Place::DiscreteRangeBehindMark => &subtypes::DISCRETE_RANGE_BEHIND_MARK,
-        Place::MarkParts => &subtypes::MARK_PARTS,
+        Place::MarkPart => &subtypes::MARK_PART,
         Place::MoreIdents => &subtypes::MORE_IDENTS,
         Place::Constraint => &subtypes::CONSTRAINT,
         Place::TypeMark => &subtypes::TYPE_MARK,
@@ -167,6 +168,7 @@ pub fn otherwise(place: Place) -> Option<&'static [Step]>
     match place {
         Place::Expression => None,
         Place::ExpressionBehindIdent => None,
+        Place::ExpressionBehindMark => None,
         Place::Combined => Some(&[]),
         Place::MoreAnd => Some(&[]),
         Place::MoreOr => Some(&[]),
@@ -205,7 +207,7 @@ pub fn otherwise(place: Place) -> Option<&'static [Step]>
         Place::RangeEnd => Some(&subtypes::RANGE_END_ELSE),
         Place::DiscreteRange => None,
         Place::DiscreteRangeBehindMark => Some(&subtypes::DISCRETE_RANGE_BEHIND_MARK_ELSE),
-        Place::MarkParts => Some(&[]),
+        Place::MarkPart => None,
         Place::MoreIdents => Some(&[]),
         Place::Constraint => Some(&subtypes::CONSTRAINT_ELSE),
         Place::TypeMark => None,
@@ -316,6 +318,7 @@ pub fn level(place: Place) -> Level
     match place {
         Place::Expression => Level::Expression,
         Place::ExpressionBehindIdent => Level::ExpressionBehind,
+        Place::ExpressionBehindMark => Level::ExpressionBehind,
         Place::FunctionBody => Level::StatementBehind,
         Place::Concurrent => Level::Statement,
         Place::Statement => Level::Statement,

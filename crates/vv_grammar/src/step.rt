@@ -33,9 +33,6 @@ pub enum Take {
 /// How a place goes on at one of some tokens: what becomes of that token, and the steps behind it.
 pub type Alternative = (&'static [Terminal], Take, &'static [Step]);
 
-/// What an alternative says, but for its tokens.
-pub type Turn = (Take, &'static [Step]);
-
 /// How deep expressions or statements nest at a place.
 #[derive(Clone, Copy, Debug, PartialEq, Eq)]
 pub enum Level {

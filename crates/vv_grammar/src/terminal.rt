@@ -1,10 +1,12 @@
 //! What the grammar sees of a token.
 
-ghost use Rattle.std.specs.Prelude.{◌≡◌, IfOk};
-ghost use Rattle.vv_grammar.specs.Terminals.{kind_of, terminals_of, same, contains};
+ghost use Rattle.std.specs.Prelude.{◌≡◌, IfOk, map};
+ghost use Rattle.vv_grammar.specs.Terminals.{contains, kind_of, kind_of_element, same, terminals_of, terminals_of_elements};
+ghost use Rattle.vv_vlex.specs.Elements.{element_of, lexeme_of};
 
 use std::alloc::Global;
 use vv_base::fault::Memory;
+use vv_vlex::element::{Element, Lexeme};
 use vv_vlex::sign::Sign;
 use vv_vlex::token::{Token, TokenKind};
 use vv_vlex::word::Word;
@@ -46,6 +48,36 @@ pub fn terminals(alloc: Global, tokens: &[Token]) -> Result<Vec<Terminal>, Memor
     let mut all = Vec::new(alloc);
     for token in tokens {
         all.push(terminal_of(&token.kind))?;
+    }
+    Ok(all)
+}
+
+/// The terminal of a lexical element.
+pub fn terminal_of_element(element: Element<'_>) -> Terminal
+    ensures { result ≡ kind_of_element (element_of element.entry) }
+{
+    match element {
+        Element::Id(_) => Terminal::Id,
+        Element::Word(word) => Terminal::Key(word),
+        Element::Int(_) => Terminal::Int,
+        Element::Char(_) => Terminal::Char,
+        Element::Str { .. } => Terminal::Str,
+        Element::BitStr(_) => Terminal::BitStr,
+        Element::Sign(sign) => Terminal::Mark(sign),
+        Element::End => Terminal::End,
+    }
+}
+
+/// The terminals of lexical elements.
+pub fn terminals_of_elements(
+    alloc: Global,
+    elements: &[Lexeme<'_>],
+) -> Result<Vec<Terminal>, Memory>
+    ensures { IfOk result (λ all. all.items ≡ terminals_of_elements (map lexeme_of elements.now)) }
+{
+    let mut all = Vec::new(alloc);
+    for lexeme in elements {
+        all.push(terminal_of_element(lexeme.element))?;
     }
     Ok(all)
 }

@@ -77,7 +77,7 @@ driven (suc n) e ts K0 a es K at h l =
     told e ts K0 a es K at l (measure e ts K at) (λ L b fs. drive n e ts L b fs) (λ fs L b f k. driven n e ts K0 a fs L b (omega arith) k)
     (machine.move e ts K at) (falls e ts K at) refl (agrees e ts K at)
 
-outcome-told : (e : Edition) (ts : List Terminal) (K : List Pending) (a : ℕ) → Told e ts K a (outcome e ts K a)
+pub outcome-told : (e : Edition) (ts : List Terminal) (K : List Pending) (a : ℕ) → Told e ts K a (outcome e ts K a)
 outcome-told e ts K a = driven (enough ts K) e ts K a [] K a (enough_moves e ts K a) (here e ts K a)
 
 pub driven_reads : (e : Edition) (s : Start) (ts : List Terminal) (a b : ℕ) (es : List Event) → outcome e ts (starting_with (steps_for s) a) a ≡ machine.reads es b → IsReading e s ts a b es

@@ -9,6 +9,7 @@ use Rattle.vv_productions.proofs.Check.{is_admitted}
 pub admitted : (e : Edition) (p : Place) → is_admitted e p ≡ true
 admitted e place.Expression = refl
 admitted e place.ExpressionBehindIdent = refl
+admitted e place.ExpressionBehindMark = refl
 admitted e place.Combined = refl
 admitted e place.MoreAnd = refl
 admitted e place.MoreOr = refl
@@ -47,7 +48,7 @@ admitted e place.Range = refl
 admitted e place.RangeEnd = refl
 admitted e place.DiscreteRange = refl
 admitted e place.DiscreteRangeBehindMark = refl
-admitted e place.MarkParts = refl
+admitted e place.MarkPart = refl
 admitted e place.MoreIdents = refl
 admitted e place.Constraint = refl
 admitted e place.TypeMark = refl

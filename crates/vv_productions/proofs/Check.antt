@@ -96,6 +96,7 @@ covers e p (suc n) without f =
 -- How many steps that take without token and make nothing can follow on one another at a place.
 abbrev pub rank : Place → ℕ
 rank place.Expression = 12
+rank place.ExpressionBehindMark = 1
 rank place.Relation = 10
 rank place.ShiftExpression = 8
 rank place.SimpleExpression = 6
@@ -109,12 +110,12 @@ rank place.Element = 14
 rank place.Choice = 15
 rank place.Range = 14
 rank place.DiscreteRange = 15
-rank place.DiscreteRangeBehindMark = 1
+rank place.DiscreteRangeBehindMark = 3
 rank place.Choices = 16
 rank place.SubtypeIndication = 2
 rank place.FunctionEnd = 1
 rank place.ArrayIndex = 15
-rank place.ArrayIndexBehindMark = 1
+rank place.ArrayIndexBehindMark = 3
 rank place.ArrayIndexBehindRange = 15
 rank place.FunctionRest = 2
 rank place.ConcurrentBehindMark = 1

@@ -28,7 +28,7 @@ use Rattle.vv_productions.proofs.Traces.{flat, expand, is_open, all_before, expa
 use Rattle.vv_productions.proofs.Meanings.{ways}
 use Rattle.vv_productions.proofs.Steps.{is_part, part, repeated, Means, m_end, m_make, m_skip, m_keep, m_call, m_many, listed, listed-means, means-append}
 use Rattle.vv_productions.proofs.Check.{depth, is_keep, is_skip, is_look, passes, takes_it, looks_at_all, covers, rank, lead, choice_leads, else_leads}
-use Rattle.vv_productions.proofs.Checked.{single, nothing-else}
+use Rattle.vv_productions.proofs.Checked.{all-take, nothing-else, single}
 use Rattle.vv_productions.proofs.Covered.{covered}
 
 -- what the check says of a place
@@ -294,7 +294,7 @@ module _ (e : Edition) (n : ℕ) (q : Place) (K : List Step) (y : List Phrase) (
 
 -- one more part of a list is an alternative
 invert : (e : Edition) (q : Place) (K : List Step) (u : List Terminal) (es : List Event) → is_part q ≡ true → Derives e (step.Call q ∷ step.Make form.Add ∷ step.Many q ∷ K) u es → Derives e (step.Many q ∷ K) u es
-invert e q K _ _ h (call _ c t _ u es a b d) = more q c t K u es a b d
+invert e q K _ _ h (call _ c t _ u es a b d) = more q c t K u es a b (all-take e q h c a) d
 invert e q K u es h (pass _ ss _ _ _ o d) = absurd (subst (λ (x : Option (List Step)). IsNone x) (sym (nothing-else q h) ∙ o) tt)
   where
     IsNone : Option (List Step) → Type 0

@@ -9,6 +9,7 @@ use Rattle.vv_productions.proofs.Check.{is_covered}
 pub covered : (e : Edition) (p : Place) → is_covered e p ≡ true
 covered e place.Expression = refl
 covered e place.ExpressionBehindIdent = refl
+covered e place.ExpressionBehindMark = refl
 covered e place.Combined = refl
 covered e place.MoreAnd = refl
 covered e place.MoreOr = refl
@@ -47,7 +48,7 @@ covered e place.Range = refl
 covered e place.RangeEnd = refl
 covered e place.DiscreteRange = refl
 covered e place.DiscreteRangeBehindMark = refl
-covered e place.MarkParts = refl
+covered e place.MarkPart = refl
 covered e place.MoreIdents = refl
 covered e place.Constraint = refl
 covered e place.TypeMark = refl

@@ -13,3 +13,5 @@ pub mod OneCode
 pub mod Complete
 pub mod Main
 pub mod Readings
+pub mod Typing
+pub mod Treed

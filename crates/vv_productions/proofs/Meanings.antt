@@ -53,19 +53,20 @@ more_of between a = many (between ▸ a ▸ make form.Add)
 abbrev pub more_operands : Phrase → Phrase → Phrase
 more_operands operator a = many (operator ▸ a ▸ make form.Operand ▸ make form.Add)
 
+-- parts of a name, of which the first doesn't begin with a dot
+abbrev pub other_parts : Phrase
+other_parts = many (rule p.name_part ▸ make form.Add ▸ q.more_dotted)
+
 abbrev pub more_parts : Phrase
-more_parts = many (rule p.name_part ▸ make form.Add)
+more_parts = q.more_dotted ▸ other_parts
 
 -- an expression behind its first identifier
 abbrev pub behind_identifier : Phrase
 behind_identifier = make form.Empty ▸ more_parts ▸ make form.Name ▸ q.exponent ▸ q.factors ▸ q.terms ▸ q.shifted ▸ q.compared ▸ q.combined
 
--- an expression behind the parts of its first name
+-- an expression behind what could be a mark
 abbrev pub behind_parts : Phrase
-behind_parts = make form.Name ▸ q.exponent ▸ q.factors ▸ q.terms ▸ q.shifted ▸ q.compared ▸ q.combined
-
-abbrev pub more_of_mark : Phrase
-more_of_mark = many (dot ▸ id ▸ make form.SelectedPart ▸ make form.Add)
+behind_parts = other_parts ▸ make form.Name ▸ q.exponent ▸ q.factors ▸ q.terms ▸ q.shifted ▸ q.compared ▸ q.combined
 
 abbrev pub arguments : Phrase
 arguments = some_of (rule p.argument) comma ▸ skip_sign sign.Close ▸ make form.Arguments
@@ -214,6 +215,7 @@ component_rest =
 abbrev pub ways : Edition → Place → List Way
 ways e place.Expression = one (rule p.expression)
 ways e place.ExpressionBehindIdent = one behind_identifier
+ways e place.ExpressionBehindMark = one behind_parts
 ways e place.Combined = one q.combined
 ways e place.MoreAnd = one (more_operands (keep_word word.And) (rule p.relation))
 ways e place.MoreOr = one (more_operands (keep_word word.Or) (rule p.relation))
@@ -233,7 +235,7 @@ ways e place.Factor = one (rule p.factor)
 ways e place.Power = one q.exponent
 ways e place.Primary = one (rule p.primary)
 ways e place.NameParts = one more_parts
-ways e place.NamePartsBehindMark = [] ∷ flat (keep_sign sign.Open ▸ arguments ▸ make form.Add ▸ more_parts) ∷ flat (keep_sign sign.Tick ▸ attribute_name ▸ make form.Add ▸ more_parts) ∷ flat (keep_sign sign.Tick ▸ qualified ▸ make form.Add ▸ more_parts) ∷ []
+ways e place.NamePartsBehindMark = one other_parts
 ways e place.BehindTick = two attribute_name qualified
 ways e place.Argument = one (rule p.argument)
 ways e place.ArgumentBehindIdent = two (arrow ▸ rule p.range ▸ make form.Named) (behind_identifier ▸ q.range_end ▸ make form.Positional)
@@ -251,8 +253,8 @@ ways e place.MoreChoices = one (more_of (skip_sign sign.Bar) (rule p.choice))
 ways e place.Range = one (rule p.range)
 ways e place.RangeEnd = one q.range_end
 ways e place.DiscreteRange = one (rule p.discrete_range)
-ways e place.DiscreteRangeBehindMark = two (more_parts ▸ behind_parts ▸ q.range_end ▸ make form.Discrete) (more_of_mark ▸ make form.Mark ▸ skip_word word.Range ▸ rule p.range ▸ make form.MarkRange)
-ways e place.MarkParts = one more_of_mark
+ways e place.DiscreteRangeBehindMark = two (behind_parts ▸ q.range_end ▸ make form.Discrete) (make form.Mark ▸ skip_word word.Range ▸ rule p.range ▸ make form.MarkRange)
+ways e place.MarkPart = one q.dotted_part
 ways e place.MoreIdents = one (more_of comma id)
 ways e place.Constraint = one (or_absent q.constraint)
 ways e place.TypeMark = one (rule p.mark)
@@ -284,7 +286,7 @@ ways e place.TypeDefinition = one (q.enumeration or q.array)
 ways e place.EnumerationLiteral = one (rule p.enumeration_literal)
 ways e place.MoreEnumerationLiterals = one (more_of comma (rule p.enumeration_literal))
 ways e place.ArrayIndex = one q.array_index
-ways e place.ArrayIndexBehindMark = flat (more_parts ▸ behind_parts ▸ q.range_end ▸ make form.Discrete ▸ make form.Bounded) ∷ flat (more_of_mark ▸ make form.Mark ▸ skip_word word.Range ▸ unbounded) ∷ flat (more_of_mark ▸ make form.Mark ▸ skip_word word.Range ▸ bounded) ∷ []
+ways e place.ArrayIndexBehindMark = flat (behind_parts ▸ q.range_end ▸ make form.Discrete ▸ make form.Bounded) ∷ flat (make form.Mark ▸ skip_word word.Range ▸ unbounded) ∷ flat (make form.Mark ▸ skip_word word.Range ▸ bounded) ∷ []
 ways e place.ArrayIndexBehindRange = two unbounded bounded
 ways e place.BehindAttribute = two attribute_declaration attribute_specification
 ways e place.EntityDesignator = one (rule p.entity_designator)
@@ -303,7 +305,7 @@ ways e place.AttributeRest = two (id ▸ attribute_declaration) (id ▸ attribut
 ways e place.Concurrent = one (rule p.concurrent_statement)
 ways e place.ConcurrentBehindIdent = two (colon ▸ plain_or_not ▸ make form.Labelled) (make form.Empty ▸ more_parts ▸ make form.Name ▸ conditional_rest)
 ways e place.LabelledConcurrent = one plain_or_not
-ways e place.ConcurrentBehindMark = two (more_parts ▸ make form.Name ▸ conditional_rest) (more_of_mark ▸ make form.Mark ▸ make form.Component ▸ instance_rest)
+ways e place.ConcurrentBehindMark = two (more_parts ▸ make form.Name ▸ conditional_rest) (q.more_dotted ▸ make form.Mark ▸ make form.Component ▸ instance_rest)
 ways e place.BehindWaveform = one behind_waveform
 ways e place.BehindCondition = [] ∷ flat (skip_word word.Else ▸ rule p.expression ▸ behind_waveform) ∷ []
 ways e place.MoreSelections = one (more_of comma q.selection)

@@ -141,7 +141,7 @@ sound e _ _ _ (stop q K u es d) k =
       means = m_many q K r.phrases b.0 r.means;
       traced = record { size = suc r.traced.size; trace = t_stop r.traced.size (repeated q) r.phrases u es r.traced.trace };
     }
-sound e _ _ _ (more q c t K u es a h d) k =
+sound e _ _ _ (more q c t K u es a h g d) k =
     let M : List Step = step.Make form.Add ∷ step.Many q ∷ K in
     let r = paired e c.steps M (left c.take t u) es (sound e (c.steps ++ M) (left c.take t u) es d (known-append c.steps M (choice-known e q c a).0 k)) in
     found-more e q K (t ∷ u) (noted c.take ++ es) r.rest r.second (turned e q c t r.before r.rest u es a h r.first r.traced)

@@ -10,6 +10,7 @@ use Rattle.vv_grammar.specs.declared.step.Step.{Step}
 use Rattle.vv_grammar.specs.declared.step.Step.TheVariants as step
 use Rattle.vv_grammar.specs.declared.terminal.Terminal.{Terminal}
 use Rattle.vv_productions.specs.Phrases as p
+use Rattle.vv_productions.specs.Productions as q
 use Rattle.vv_productions.specs.Phrases.{Phrase, skip, keep, make, rule, ◌▸◌, ◌or◌, option, many}
 use Rattle.vv_productions.proofs.Among.{Way, In, at_head, behind}
 use Rattle.vv_productions.proofs.Meanings.{ways}
@@ -23,6 +24,7 @@ is_part place.BodyDeclaration = true
 is_part place.ProcessDeclaration = true
 is_part place.Concurrent = true
 is_part place.Statement = true
+is_part place.MarkPart = true
 is_part _ = false
 
 abbrev pub part : Place → Phrase
@@ -33,6 +35,7 @@ part place.BodyDeclaration = rule p.common_declaration or rule p.function_body
 part place.ProcessDeclaration = rule p.process_declaration
 part place.Concurrent = rule p.concurrent_statement
 part place.Statement = rule p.statement
+part place.MarkPart = q.dotted_part
 part _ = make form.Absent
 
 abbrev pub repeated : Place → Phrase

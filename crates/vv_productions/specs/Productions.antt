@@ -15,6 +15,17 @@ end_name = or_absent id
 abbrev pub default : Phrase
 default = or_absent (skip_sign sign.Becomes ▸ rule expression)
 
+-- an identifier behind a dot
+abbrev pub dotted_part : Phrase
+dotted_part = dot ▸ id ▸ make form.SelectedPart
+
+-- identifiers behind dots, as parts of a name or a mark
+abbrev pub more_dotted : Phrase
+more_dotted = many (dotted_part ▸ make form.Add)
+
+abbrev pub dotted : Phrase
+dotted = make form.Empty ▸ more_dotted
+
 abbrev pub identifiers : Phrase
 identifiers = some_of id comma
 
@@ -182,7 +193,7 @@ definition e entity_designator = id or keep the.Char or keep the.Str or keep_wor
 definition e entity_class =
     keep_word word.Entity or keep_word word.Architecture or keep_word word.Signal or keep_word word.Variable or keep_word word.Constant
     or keep_word word.Type or keep_word word.Subtype or keep_word word.Component or keep_word word.Label or keep_word word.Function or keep_word word.Package
-definition e mark = id ▸ make form.Empty ▸ many (dot ▸ id ▸ make form.SelectedPart ▸ make form.Add) ▸ make form.Mark
+definition e mark = id ▸ dotted ▸ make form.Mark
 definition e subtype_indication = rule mark ▸ or_absent constraint ▸ make form.Subtype
 definition e range = rule expression ▸ range_end
 definition e discrete_range =
@@ -273,10 +284,9 @@ definition e aggregate =
     ▸ many (comma ▸ rule element ▸ make form.Add) ▸ skip_sign sign.Close ▸ make form.Aggregate
 definition e element = rule bound_element or rule expression ▸ make form.Element
 definition e bound_element = rule choices ▸ arrow ▸ rule expression ▸ make form.BoundElement
-definition e name = id ▸ make form.Empty ▸ many (rule name_part ▸ make form.Add) ▸ make form.Name
+definition e name = id ▸ dotted ▸ many (rule name_part ▸ make form.Add ▸ more_dotted) ▸ make form.Name
 definition e name_part =
-    dot ▸ id ▸ make form.SelectedPart
-    or keep_sign sign.Open ▸ some_of (rule argument) comma ▸ skip_sign sign.Close ▸ make form.Arguments
+    keep_sign sign.Open ▸ some_of (rule argument) comma ▸ skip_sign sign.Close ▸ make form.Arguments
     or keep_sign sign.Tick ▸ (id ▸ make form.Attribute or skip_word word.Range ▸ make form.RangeAttribute)
     or keep_sign sign.Tick ▸ (rule parenthesis or rule aggregate) ▸ make form.Qualified
 definition e argument =

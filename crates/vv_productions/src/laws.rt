@@ -6,6 +6,7 @@ ghost use Rattle.vv_grammar.specs.declared.event.Event.{Event};
 ghost use Rattle.vv_grammar.specs.declared.machine.Stop.TheVariants.{Misplaced};
 ghost use Rattle.vv_grammar.specs.declared.terminal.Terminal.{Terminal};
 ghost use Rattle.vv_grammar.specs.Machine.{Halts, Leads, starting_with};
+ghost use Rattle.vv_grammar.specs.Terminals.{terminals_of};
 ghost use Rattle.vv_grammar.specs.Trees.{Tree};
 ghost use Rattle.vv_grammar_laws.specs.Derivations.{Derives};
 ghost use Rattle.vv_grammar_laws.specs.Starts.{Start, steps_for};
@@ -29,6 +30,11 @@ pub fn matches_are_one(edition: Edition)
 /// Tokens have at most one tree.
 pub fn trees_are_one(edition: Edition)
     ensures { (s : Start) (ts : List Token) (a b : Tree) → IsTreeOf edition s ts a → IsTreeOf edition s ts b → a ≡ b }
+{}
+
+/// What matches makes a tree.
+pub fn what_matches_has_a_tree(edition: Edition)
+    ensures { (s : Start) (ts : List Token) (es : List Event) → Matches edition (phrase_for s ∷ []) (terminals_of ts) es → (t : Tree) × IsTreeOf edition s ts t }
 {}
 
 /// What the machine reads matches, and no longer run of the tokens could be the start of anything.

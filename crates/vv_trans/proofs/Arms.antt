@@ -43,7 +43,7 @@ tells Memory all q e t = tt
 
 -- behind the first phase the gates report
 after : (top : List ℕ) (files rest : List (List ℕ)) → lexing 0 files ≡ None → parsing 0 files ≡ None → files ≡ rest → report top files ≡ gates top rest
-after top files rest none lawful is = report_by_gates top files rest is (lexing_all 0 files none) (parsing_all 0 files lawful)
+after top files rest none lawful is = report_by_gates top files rest is (lexing_all 0 files none) (parsing_all 0 files (lexing_all 0 files none) lawful)
 
 pub none_told : (top : List ℕ) (files : List (Bor (List ℕ))) → length files < 1 → lexing 0 (bytes_of files) ≡ None → parsing 0 (bytes_of files) ≡ None → report top (bytes_of files) ≡ Some (record { rule = Y1; file = 0; at = 0 })
 none_told top [] few none lawful = after top [] [] none lawful refl

@@ -1,5 +1,7 @@
 pub mod Places
 pub mod Exact
+pub mod Ending
+pub mod Texts
 pub mod Phases
 pub mod Inside
 pub mod Lexed

@@ -10,6 +10,7 @@ use Rattle.vv_vlex.specs.Lexical.{Broken, Elements, elements_of}
 use Rattle.vv_vlex_laws.proofs.Cuts.{over_limit, cut_of, only_cut, stuck_of, only_stuck}
 use Rattle.vv_trans.specs.Translation.{most_bytes, Report, element_report, lexing, syntax_report, parsing, gates, report, HasElements, HasSyntax, IsReport, too_long, stuck, unparsed, no_file, second, misplaced, broken, IsAccepted}
 use Rattle.vv_trans.specs.Parsing.{syntax}
+use Rattle.vv_trans.proofs.Texts.{has_syntax, passes, no_text, one_behind}
 use Rattle.vv_trans.proofs.Exact.{gate_told, gate_misplaced, gate_broken, gate_accepted}
 
 ok_err : (ls : List Lexeme) (b : Broken) (e : Elements) → e ≡ Ok ls → e ≡ Err b → ⊥
@@ -107,35 +108,38 @@ parsing_told top files before (file ∷ more) r split all sound e =
     here (λ h k. parsing_told top files (before ++ (file ∷ [])) more r (split ∙ sym (append_assoc before (file ∷ []) more)) all (All-append HasSyntax before (file ∷ []) sound (All-cons HasSyntax file [] h (All-nil HasSyntax))) k)
     (syntax file) refl e
   where
+    own : HasElements file
+    own = one_behind before more file (subst (λ (x : List (List ℕ)). All HasElements x) split all)
+
     here : (HasSyntax file → parsing (length (before ++ (file ∷ []))) more ≡ Some r → IsReport top files r)
         → (o : Option Broken) → syntax file ≡ o → option_or (syntax_report (length before) o) (parsing (length before + 1) more) ≡ Some r → IsReport top files r
-    here later (Some b) is e = subst (IsReport top files) (same_report (record { rule = b.rule; file = length before; at = b.at }) r e) (unparsed before more file b split all sound is)
-    here later None is e = later is (ap (λ (n : ℕ). parsing n more) (length-append before (file ∷ [])) ∙ e)
+    here later (Some b) is e = subst (IsReport top files) (same_report (record { rule = b.rule; file = length before; at = b.at }) r e) (unparsed before more file b split all sound is own (no_text file b own is))
+    here later None is e = later (has_syntax file own is) (ap (λ (n : ℕ). parsing n more) (length-append before (file ∷ [])) ∙ e)
 
 -- with no report each file is lawful in its syntax
-pub parsing_all : (number : ℕ) (files : List (List ℕ)) → parsing number files ≡ None → All HasSyntax files
+pub parsing_all : (number : ℕ) (files : List (List ℕ)) → All HasElements files → parsing number files ≡ None → All HasSyntax files
 unfolding parsing
-parsing_all number [] e = All-nil HasSyntax
-parsing_all number (file ∷ more) e = here (λ k. parsing_all (number + 1) more k) (syntax file) refl e
+parsing_all number [] all e = All-nil HasSyntax
+parsing_all number (file ∷ more) all e = here (λ k. parsing_all (number + 1) more (All-tail HasElements file more all) k) (syntax file) refl e
   where
     here : (parsing (number + 1) more ≡ None → All HasSyntax more)
         → (o : Option Broken) → syntax file ≡ o → option_or (syntax_report number o) (parsing (number + 1) more) ≡ None → All HasSyntax (file ∷ more)
     here later (Some b) is e = absurd (some_none (record { rule = b.rule; file = number; at = b.at }) e)
-    here later None is e = All-cons HasSyntax file more is (later e)
+    here later None is e = All-cons HasSyntax file more (has_syntax file (All-head HasElements file more all) is) (later e)
 
 -- files that are lawful in their syntax are passed
 parsing_passes : (number : ℕ) (before rest : List (List ℕ)) → All HasSyntax before → parsing number (before ++ rest) ≡ parsing (number + length before) rest
 unfolding parsing
 parsing_passes number [] rest all = ap (λ (n : ℕ). parsing n rest) (let e : number ≡ number + 0 = omega arith in e)
 parsing_passes number (file ∷ more) rest all =
-    ap (λ (o : Option Broken). option_or (syntax_report number o) (parsing (number + 1) (more ++ rest))) (All-head HasSyntax file more all)
+    ap (λ (o : Option Broken). option_or (syntax_report number o) (parsing (number + 1) (more ++ rest))) (passes file (All-head HasSyntax file more all))
     ∙ (parsing_passes (number + 1) more rest (All-tail HasSyntax file more all) ∙ ap (λ (n : ℕ). parsing n rest) (let e : number + 1 + length more ≡ number + length (file ∷ more) = omega arith in e))
 
 parsing_none : (number : ℕ) (files : List (List ℕ)) → All HasSyntax files → parsing number files ≡ None
 unfolding parsing
 parsing_none number [] all = refl
 parsing_none number (file ∷ more) all =
-    ap (λ (o : Option Broken). option_or (syntax_report number o) (parsing (number + 1) more)) (All-head HasSyntax file more all)
+    ap (λ (o : Option Broken). option_or (syntax_report number o) (parsing (number + 1) more)) (passes file (All-head HasSyntax file more all))
     ∙ parsing_none (number + 1) more (All-tail HasSyntax file more all)
 
 -- the first file that breaks a rule of syntax is the one that is reported
@@ -171,7 +175,7 @@ told_exactly top files r e = by_elements (lexing 0 files) refl e
   where
     by_syntax : (o : Option Report) → parsing 0 files ≡ o → All HasElements files → option_or o (gates top files) ≡ Some r → IsReport top files r
     by_syntax (Some q) is all e = subst (IsReport top files) (same_report q r e) (parsing_told top files [] files q refl all (All-nil HasSyntax) is)
-    by_syntax None is all e = gates_told top files files r refl all (parsing_all 0 files is) e
+    by_syntax None is all e = gates_told top files files r refl all (parsing_all 0 files all is) e
 
     by_elements : (o : Option Report) → lexing 0 files ≡ o → option_or o (option_or (parsing 0 files) (gates top files)) ≡ Some r → IsReport top files r
     by_elements (Some q) is e = subst (IsReport top files) (same_report q r e) (lexing_told top files [] files q refl (All-nil HasElements) is)
@@ -200,7 +204,7 @@ only_told top files r (too_long before more file split all long) =
     report_by_lexing top files (record { rule = L1; file = length before; at = 0 }) (lexing_broken files before more file (record { rule = L1; at = 0 }) split all (over_limit file long))
 only_told top files r (stuck before more file rule at split all short s) =
     report_by_lexing top files (record { rule = rule; file = length before; at = at }) (lexing_broken files before more file (record { rule = rule; at = at }) split all (only_stuck file at rule short s))
-only_told top files r (unparsed before more file b split all sound is) =
+only_told top files r (unparsed before more file b split all sound is h n) =
     report_by_parsing top files (record { rule = b.rule; file = length before; at = b.at }) all (parsing_broken files before more file b split sound is)
 only_told top files r (no_file is) = report_by_gates top files [] is (subst (λ (x : List (List ℕ)). All HasElements x) (sym is) (All-nil HasElements)) (subst (λ (x : List (List ℕ)). All HasSyntax x) (sym is) (All-nil HasSyntax))
 only_told top files r (second file other more is all sound) = report_by_gates top files (file ∷ other ∷ more) is all sound
@@ -218,7 +222,7 @@ accepted_exactly top files e = by_elements (lexing 0 files) refl e
   where
     by_syntax : (o : Option Report) → parsing 0 files ≡ o → All HasElements files → option_or o (gates top files) ≡ None → IsAccepted top files
     by_syntax (Some q) is all e = absurd (some_none q e)
-    by_syntax None is all e = gates_accepted top files files refl all (parsing_all 0 files is) e
+    by_syntax None is all e = gates_accepted top files files refl all (parsing_all 0 files all is) e
 
     by_elements : (o : Option Report) → lexing 0 files ≡ o → option_or o (option_or (parsing 0 files) (gates top files)) ≡ None → IsAccepted top files
     by_elements (Some q) is e = absurd (some_none q e)

@@ -9,8 +9,9 @@ use Rattle.vv_vlex.specs.Elements.{Element, Lexeme, finish}
 use Rattle.vv_vlex.specs.Lexical.{Broken, Elements, elements_of, placed}
 use Rattle.vv_vlex_laws.specs.Cut.{Piece, text_of, element_for, elements_from, IsCutOf}
 use Rattle.vv_vlex_laws.proofs.Cuts.{cut_of}
-use Rattle.vv_grammar.specs.Machine.{Outcome, reads, misplaced, too_deep, unfinished}
-use Rattle.vv_trans.specs.Parsing.{terminals_of, offset_of, judged, judged_of, parsed, syntax}
+use Rattle.vv_grammar.specs.Machine.{Outcome, reads, misplaced, too_deep}
+use Rattle.vv_grammar.specs.Terminals.{terminals_of_elements}
+use Rattle.vv_trans.specs.Parsing.{offset_of, judged, judged_of, parsed, syntax}
 use Rattle.vv_trans.specs.Translation.{Report, syntax_report, parsing}
 use Rattle.vv_trans.proofs.Inside.{IsPlaced, placed_later}
 use Rattle.vv_trans.proofs.Phases.{same_report}
@@ -50,10 +51,9 @@ judged_within : (n : ℕ) (ts : List Lexeme) (o : Outcome) (b : Broken) → ((k 
 judged_within n ts (reads es at) b all e = let z : None ≡ Some b = e in cc
 judged_within n ts (misplaced k) b all e = let z : record { rule = Y1; at = offset_of (slice_get ts k) } ≡ b = some_same (record { rule = Y1; at = offset_of (slice_get ts k) }) b e in subst (λ (x : Broken). x.at ≤ n) z (all k)
 judged_within n ts (too_deep k) b all e = let z : record { rule = Y2; at = offset_of (slice_get ts k) } ≡ b = some_same (record { rule = Y2; at = offset_of (slice_get ts k) }) b e in subst (λ (x : Broken). x.at ≤ n) z (all k)
-judged_within n ts unfinished b all e = let z : None ≡ Some b = e in cc
 
 by_elements : (file : List ℕ) (o : Elements) (b : Broken) → elements_of file ≡ o → judged_of o ≡ Some b → b.at ≤ length file
-by_elements file (Ok ls) b is e = judged_within (length file) ls (parsed (terminals_of ls)) b (λ k. places_within (length file) ls k (lexemes_within file ls (cut_of file ls is))) e
+by_elements file (Ok ls) b is e = judged_within (length file) ls (parsed (terminals_of_elements ls)) b (λ k. places_within (length file) ls k (lexemes_within file ls (cut_of file ls is))) e
 by_elements file (Err x) b is e = let z : None ≡ Some b = e in cc
 
 syntax_inside : (file : List ℕ) (b : Broken) → syntax file ≡ Some b → b.at ≤ length file

@@ -1,27 +1,13 @@
 -- Where the elements of a file cease to go on in the grammar of VHDL.
-use Rattle.std.specs.Prelude.{ℕ, List, map, Option, Some, None, Ok, Err, slice_get}
+use Rattle.std.specs.Prelude.{ℕ, List, Option, Some, None, Ok, Err, slice_get}
 use Rattle.vv_base.specs.declared.rules.Rule.TheVariants.{Y1, Y2}
-use Rattle.vv_vlex.specs.Elements.{Element, Lexeme, id, word, int, char, str, bit_str, sign, finish}
+use Rattle.vv_vlex.specs.Elements.{Lexeme}
 use Rattle.vv_vlex.specs.Lexical.{Broken, Elements, elements_of}
-use Rattle.vv_grammar.specs.Machine.{Outcome, reads, misplaced, too_deep, unfinished, outcome, starting_with}
+use Rattle.vv_grammar.specs.Machine.{Outcome, reads, misplaced, too_deep, outcome, starting_with}
 use Rattle.vv_grammar.specs.declared.edition.Edition.TheVariants as edition
 use Rattle.vv_grammar.specs.declared.starts.TheConstants.{FILE}
 use Rattle.vv_grammar.specs.declared.terminal.Terminal.{Terminal}
-use Rattle.vv_grammar.specs.declared.terminal.Terminal.TheVariants as terminal
-
--- what the grammar sees of an element
-abbrev pub terminal_of : Element → Terminal
-terminal_of (id text) = terminal.Id
-terminal_of (word w) = terminal.Key w
-terminal_of (int n) = terminal.Int
-terminal_of (char b) = terminal.Char
-terminal_of (str written bytes) = terminal.Str
-terminal_of (bit_str text) = terminal.BitStr
-terminal_of (sign s) = terminal.Mark s
-terminal_of finish = terminal.End
-
-abbrev pub terminals_of : List Lexeme → List Terminal
-terminals_of ls = map (λ l. terminal_of l.element) ls
+use Rattle.vv_grammar.specs.Terminals.{terminals_of_elements}
 
 -- the offset of an element
 abbrev pub offset_of : Option Lexeme → ℕ
@@ -33,13 +19,12 @@ abbrev pub judged : List Lexeme → Outcome → Option Broken
 judged ls (reads es at) = None
 judged ls (misplaced n) = Some (record { rule = Y1; at = offset_of (slice_get ls n) })
 judged ls (too_deep n) = Some (record { rule = Y2; at = offset_of (slice_get ls n) })
-judged ls unfinished = None
 
 abbrev pub parsed : List Terminal → Outcome
 parsed ts = outcome edition.Vhdl93 ts (starting_with FILE 0) 0
 
 abbrev pub judged_of : Elements → Option Broken
-judged_of (Ok ls) = judged ls (parsed (terminals_of ls))
+judged_of (Ok ls) = judged ls (parsed (terminals_of_elements ls))
 judged_of (Err b) = None
 
 -- the rule of syntax that a file breaks, if its elements are sound

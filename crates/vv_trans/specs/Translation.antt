@@ -10,6 +10,7 @@ use Rattle.vv_vlex.specs.Elements.{Lexeme}
 pub use Rattle.vv_vlex.specs.Lexical.{ForRefused}
 use Rattle.vv_vlex.specs.Lexical.{Broken, Elements, elements_of}
 use Rattle.vv_trans.specs.Parsing.{syntax}
+use Rattle.vv_trans.specs.Syntax.{IsText, IsNoText}
 use Rattle.vv_vlex_laws.specs.Cut.{IsCutOf, IsStuckAt}
 use Rattle.vv_gate.specs.Tree.{GateFile}
 use Rattle.vv_gate.specs.Conditions.{IsSound, IsFirstBroken}
@@ -124,20 +125,22 @@ pub record HasElements (file : List ℕ) : Type 0 where
   pub elements : List Lexeme
   pub cut : IsCutOf file elements
 
--- the file breaks no rule of syntax
-abbrev pub HasSyntax : List ℕ → Type 0
-HasSyntax file = syntax file ≡ None
+-- the file breaks no rule of syntax: its elements are a text
+pub record HasSyntax (file : List ℕ) : Type 0 where
+  pub lexical : HasElements file
+  pub text : IsText lexical.elements
 
 -- What a report says. First come limits and elements: of the first file that is too long, or in which no element stands at some place, the
--- files before it having theirs. Where all files have theirs, there is one file alone, or the second one is refused at its start. That file is
--- refused at the first token that no text of the grammar goes on with; else a condition is broken, and this is the first place of one.
+-- files before it having theirs. Where all files have theirs, the first file comes whose elements are no text by the productions of the grammar, or have something
+-- too deep. Where there is none, there is one file alone, or the second one is refused at its start. That file is refused at the first token that no text of the
+-- grammar of gates goes on with; else a condition is broken, and this is the first place of one.
 pub data IsReport (top : List ℕ) (files : List (List ℕ)) : Report → Type 0 where
   too_long : (before more : List (List ℕ)) (file : List ℕ) → files ≡ before ++ (file ∷ more) → All HasElements before
       → most_bytes < length file → IsReport top files (record { rule = L1; file = length before; at = 0 })
   stuck : (before more : List (List ℕ)) (file : List ℕ) (rule : Rule) (at : ℕ) → files ≡ before ++ (file ∷ more) → All HasElements before
       → length file ≤ most_bytes → IsStuckAt file at rule → IsReport top files (record { rule = rule; file = length before; at = at })
   unparsed : (before more : List (List ℕ)) (file : List ℕ) (b : Broken) → files ≡ before ++ (file ∷ more) → All HasElements files → All HasSyntax before
-      → syntax file ≡ Some b → IsReport top files (record { rule = b.rule; file = length before; at = b.at })
+      → syntax file ≡ Some b → (h : HasElements file) → IsNoText h.elements b → IsReport top files (record { rule = b.rule; file = length before; at = b.at })
   no_file : files ≡ [] → IsReport top files (record { rule = Y1; file = 0; at = 0 })
   second : (file other : List ℕ) (more : List (List ℕ)) → files ≡ file ∷ other ∷ more → All HasElements files → All HasSyntax files
       → IsReport top files (record { rule = Y1; file = 1; at = 0 })

@@ -12,15 +12,14 @@ ghost use Rattle.vv_gate_text.specs.Made.{module_of};
 ghost use Rattle.vv_gate_text.specs.Map.{map_of};
 ghost use Rattle.vv_gate_text.specs.Names.{mangled};
 ghost use Rattle.vv_gate_text.specs.Text.{text_of};
-ghost use Rattle.vv_trans.specs.Parsing as spec;
 ghost use Rattle.vv_trans.specs.Parsing.{judged, offset_of, parsed, syntax};
-ghost use Rattle.vv_vlex.specs.Elements.{element_of, lexeme_of};
+ghost use Rattle.vv_vlex.specs.Elements.{lexeme_of};
 ghost use Rattle.vv_trans.specs.Translation.{bytes_of, folded, gate_report, lexing, parsing, reading_of, report, told, written, written_of, ForRefused, IsTranslation, Stands, Report, IsReport};
 ghost use Rattle.vv_vast.specs.Flat.{Flat, FlatDesign};
 ghost use Rattle.vv_vast.specs.Grammar.{VerilogText};
 
 use std::alloc::Global;
-use vv_base::fault::{Fault, Memory, Refusal, Rule, Span};
+use vv_base::fault::{Fault, Refusal, Rule, Span};
 use vv_base::text::ByteList;
 use vv_gate::tree::GateFile;
 use vv_gate_check::first_broken;
@@ -30,8 +29,8 @@ use vv_gate_text::text::text;
 use vv_grammar::edition::Edition;
 use vv_grammar::machine::{Stop, run};
 use vv_grammar::starts::FILE;
-use vv_grammar::terminal::Terminal;
-use vv_vlex::element::{Element, Lexeme};
+use vv_grammar::terminal::{Terminal, terminals_of_elements};
+use vv_vlex::element::Lexeme;
 use vv_vlex::lexer::elements;
 
 /// The Verilog text and the map of names.
@@ -68,33 +67,6 @@ fn lex_files(alloc: Global, files: &[&[u8]]) -> Result<(), Fault>
         }
     }
     Ok(())
-}
-
-/// What the grammar sees of an element.
-fn terminal_of(element: Element<'_>) -> Terminal
-    ensures { result ≡ spec.terminal_of (element_of element.entry) }
-{
-    match element {
-        Element::Id(_) => Terminal::Id,
-        Element::Word(word) => Terminal::Key(word),
-        Element::Int(_) => Terminal::Int,
-        Element::Char(_) => Terminal::Char,
-        Element::Str { .. } => Terminal::Str,
-        Element::BitStr(_) => Terminal::BitStr,
-        Element::Sign(sign) => Terminal::Mark(sign),
-        Element::End => Terminal::End,
-    }
-}
-
-/// What the grammar sees of the elements of a file.
-fn terminals_of(alloc: Global, elements: &[Lexeme<'_>]) -> Result<Vec<Terminal>, Memory>
-    ensures { IfOk result (λ all. all.items ≡ spec.terminals_of (map lexeme_of elements.now)) }
-{
-    let mut all = Vec::new(alloc);
-    for lexeme in elements {
-        all.push(terminal_of(lexeme.element))?;
-    }
-    Ok(all)
 }
 
 /// A refusal at an element.
@@ -145,7 +117,7 @@ fn parse_file(alloc: Global, number: u32, file: &[u8]) -> Result<(), Fault>
     ensures file { IfErr result (λ fault. ForRefused fault (λ r. r.span.file ≡ number)) }
 {
     match elements(alloc, number, file) {
-        Ok(found) => match terminals_of(alloc, found.as_slice()) {
+        Ok(found) => match terminals_of_elements(alloc, found.as_slice()) {
             Ok(terminals) => judge(alloc, number, found.as_slice(), terminals.as_slice()),
             Err(_) => Err(Fault::Memory),
         },

@@ -388,7 +388,11 @@ pub const ARRAY_INDEX: [Alternative; 2] = [
     (
         &[Id],
         Take::Keep,
-        &[Make(Form::Empty), Call(Place::ArrayIndexBehindMark)],
+        &[
+            Make(Form::Empty),
+            Many(Place::MarkPart),
+            Call(Place::ArrayIndexBehindMark),
+        ],
     ),
     (
         &[
@@ -412,37 +416,18 @@ pub const ARRAY_INDEX: [Alternative; 2] = [
 ];
 
 /// A name was read as far as it can be a mark.
-pub const ARRAY_INDEX_BEHIND_MARK: [Alternative; 2] = [
-    (
-        &[Mark(Sign::Dot)],
-        Take::Skip,
-        &[
-            Keep(Id),
-            Make(Form::SelectedPart),
-            Make(Form::Add),
-            Call(Place::ArrayIndexBehindMark),
-        ],
-    ),
-    (
-        &[Key(Word::Range)],
-        Take::Look,
-        &[
-            Make(Form::Mark),
-            Skip(Key(Word::Range)),
-            Call(Place::ArrayIndexBehindRange),
-        ],
-    ),
-];
+pub const ARRAY_INDEX_BEHIND_MARK: [Alternative; 1] = [(
+    &[Key(Word::Range)],
+    Take::Look,
+    &[
+        Make(Form::Mark),
+        Skip(Key(Word::Range)),
+        Call(Place::ArrayIndexBehindRange),
+    ],
+)];
 
-pub const ARRAY_INDEX_BEHIND_MARK_ELSE: [Step; 11] = [
-    Call(Place::NamePartsBehindMark),
-    Make(Form::Name),
-    Call(Place::Power),
-    Call(Place::Factors),
-    Call(Place::Terms),
-    Call(Place::Shifted),
-    Call(Place::Compared),
-    Call(Place::Combined),
+pub const ARRAY_INDEX_BEHIND_MARK_ELSE: [Step; 4] = [
+    Call(Place::ExpressionBehindMark),
     Call(Place::RangeEnd),
     Make(Form::Discrete),
     Make(Form::Bounded),

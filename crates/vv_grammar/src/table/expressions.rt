@@ -77,6 +77,56 @@ pub const EXPRESSION_BEHIND_IDENT: [Alternative; 1] = [(
     ],
 )];
 
+/// An expression that a name begins which was read as far as it can be a mark, at what can follow that name in a discrete range.
+pub const EXPRESSION_BEHIND_MARK: [Alternative; 1] = [(
+    &[
+        Mark(Sign::Open),
+        Mark(Sign::Tick),
+        Mark(Sign::StarStar),
+        Mark(Sign::Star),
+        Mark(Sign::Slash),
+        Key(Word::Mod),
+        Key(Word::Rem),
+        Mark(Sign::Plus),
+        Mark(Sign::Minus),
+        Mark(Sign::Ampersand),
+        Key(Word::Sll),
+        Key(Word::Srl),
+        Key(Word::Sla),
+        Key(Word::Sra),
+        Key(Word::Rol),
+        Key(Word::Ror),
+        Mark(Sign::Equal),
+        Mark(Sign::NotEqual),
+        Mark(Sign::Less),
+        Mark(Sign::LessEqual),
+        Mark(Sign::Greater),
+        Mark(Sign::GreaterEqual),
+        Key(Word::And),
+        Key(Word::Or),
+        Key(Word::Xor),
+        Key(Word::Xnor),
+        Key(Word::Nand),
+        Key(Word::Nor),
+        Key(Word::To),
+        Key(Word::Downto),
+        Mark(Sign::Close),
+        Key(Word::Loop),
+        Key(Word::Generate),
+    ],
+    Take::Look,
+    &[
+        Call(Place::NamePartsBehindMark),
+        Make(Form::Name),
+        Call(Place::Power),
+        Call(Place::Factors),
+        Call(Place::Terms),
+        Call(Place::Shifted),
+        Call(Place::Compared),
+        Call(Place::Combined),
+    ],
+)];
+
 /// A logical operator and the relations behind it.
 pub const COMBINED: [Alternative; 5] = [
     (

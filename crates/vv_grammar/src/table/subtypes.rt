@@ -2,7 +2,7 @@
 
 use crate::form::Form;
 use crate::place::Place;
-use crate::step::Step::{Call, Keep, Make, Skip};
+use crate::step::Step::{Call, Keep, Make, Many, Skip};
 use crate::step::{Alternative, Step, Take};
 use crate::terminal::Terminal::{BitStr, Char, Id, Int, Key, Mark, Str};
 use vv_vlex::sign::Sign;
@@ -24,7 +24,11 @@ pub const DISCRETE_RANGE: [Alternative; 2] = [
     (
         &[Id],
         Take::Keep,
-        &[Make(Form::Empty), Call(Place::DiscreteRangeBehindMark)],
+        &[
+            Make(Form::Empty),
+            Many(Place::MarkPart),
+            Call(Place::DiscreteRangeBehindMark),
+        ],
     ),
     (
         &[
@@ -44,51 +48,28 @@ pub const DISCRETE_RANGE: [Alternative; 2] = [
 ];
 
 /// A name was read as far as it can be a mark.
-pub const DISCRETE_RANGE_BEHIND_MARK: [Alternative; 2] = [
-    (
-        &[Mark(Sign::Dot)],
-        Take::Skip,
-        &[
-            Keep(Id),
-            Make(Form::SelectedPart),
-            Make(Form::Add),
-            Call(Place::DiscreteRangeBehindMark),
-        ],
-    ),
-    (
-        &[Key(Word::Range)],
-        Take::Look,
-        &[
-            Make(Form::Mark),
-            Skip(Key(Word::Range)),
-            Call(Place::Range),
-            Make(Form::MarkRange),
-        ],
-    ),
-];
+pub const DISCRETE_RANGE_BEHIND_MARK: [Alternative; 1] = [(
+    &[Key(Word::Range)],
+    Take::Look,
+    &[
+        Make(Form::Mark),
+        Skip(Key(Word::Range)),
+        Call(Place::Range),
+        Make(Form::MarkRange),
+    ],
+)];
 
-pub const DISCRETE_RANGE_BEHIND_MARK_ELSE: [Step; 10] = [
-    Call(Place::NamePartsBehindMark),
-    Make(Form::Name),
-    Call(Place::Power),
-    Call(Place::Factors),
-    Call(Place::Terms),
-    Call(Place::Shifted),
-    Call(Place::Compared),
-    Call(Place::Combined),
+pub const DISCRETE_RANGE_BEHIND_MARK_ELSE: [Step; 3] = [
+    Call(Place::ExpressionBehindMark),
     Call(Place::RangeEnd),
     Make(Form::Discrete),
 ];
 
-pub const MARK_PARTS: [Alternative; 1] = [(
+/// A part of a mark.
+pub const MARK_PART: [Alternative; 1] = [(
     &[Mark(Sign::Dot)],
     Take::Skip,
-    &[
-        Keep(Id),
-        Make(Form::SelectedPart),
-        Make(Form::Add),
-        Call(Place::MarkParts),
-    ],
+    &[Keep(Id), Make(Form::SelectedPart)],
 )];
 
 pub const MORE_IDENTS: [Alternative; 1] = [(
@@ -120,7 +101,7 @@ pub const CONSTRAINT_ELSE: [Step; 1] = [Make(Form::Absent)];
 pub const TYPE_MARK: [Alternative; 1] = [(
     &[Id],
     Take::Keep,
-    &[Make(Form::Empty), Call(Place::MarkParts), Make(Form::Mark)],
+    &[Make(Form::Empty), Many(Place::MarkPart), Make(Form::Mark)],
 )];
 
 /// A subtype indication (IEEE 1076-1993, clause 4.2).

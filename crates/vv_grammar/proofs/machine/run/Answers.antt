@@ -1,4 +1,4 @@
-use Rattle.std.proofs.Common.{suc, ◌∙◌, ◌∷◌, refl, arith}
+use Rattle.std.proofs.Common.{suc, ◌∷◌, refl, arith}
 use Rattle.std.proofs.lemmas.Result.{err_from_is_err_and}
 use Rattle.vv_grammar.specs.Machine.{here, starting_with, enough}
 use Rattle.vv_grammar.proofs.Weights.{measure, falls, driven_on, enough_moves}
@@ -19,28 +19,28 @@ moves-smaller c =
     let L = c.in-Some.pending ∷ c.pop.new.self in
     rw c.in-Some.ensures
     (fell c.args.edition c.args.tokens.now L (record { stack = c.pop.new.self; at = c.moves.state.at; events = c.moves.state.events }) c.advance.new.state _
-    (falls c.args.edition c.args.tokens.now L c.moves.state.at) c.in_ok-advance.ensures.ok)
+    (falls c.args.edition c.args.tokens.now L c.moves.state.at) (rw c.in_ok-jumps.ensures at c.in_ok-advance.ensures.ok))
 
 pub moves-preserved : goal.moves-preserved
 moves-preserved c =
     let L = c.in-Some.pending ∷ c.pop.new.self in
     let l = rw c.in-Some.ensures at c.moves.invariant.0 in
     let d = rw c.in-Some.ensures at c.moves.invariant.1 in (
-      moved c.args.edition c.args.tokens.now (starting_with c.args.steps.now c.args.at) L c.args.at (record { stack = c.pop.new.self; at = c.moves.state.at; events = c.moves.state.events }) c.advance.new.state _ l refl c.in_ok-advance.ensures.ok,
-      drives_on c.args.edition c.args.tokens.now L (record { stack = c.pop.new.self; at = c.moves.state.at; events = c.moves.state.events }) c.advance.new.state _ d c.in_ok-advance.ensures.ok,
+      moved c.args.edition c.args.tokens.now (starting_with c.args.steps.now c.args.at) L c.args.at (record { stack = c.pop.new.self; at = c.moves.state.at; events = c.moves.state.events }) c.advance.new.state _ l refl (rw c.in_ok-jumps.ensures at c.in_ok-advance.ensures.ok),
+      drives_on c.args.edition c.args.tokens.now L (record { stack = c.pop.new.self; at = c.moves.state.at; events = c.moves.state.events }) c.advance.new.state _ d (rw c.in_ok-jumps.ensures at c.in_ok-advance.ensures.ok),
     )
 
 pub returns-in_err-advance-clause-halts : goal.returns-in_err-advance-clause-halts
 returns-in_err-advance-clause-halts c =
     let p = err_from_is_err_and c.from_residual-in_err-advance.result c.from_residual-in_err-advance.ensures.1 in
     let l = rw c.in-Some.ensures at c.moves.invariant.0 in
-    rw (p.1, p.2) (stopped c.args.edition c.args.tokens.now (starting_with c.args.steps.now c.args.at) _ c.args.at (record { stack = c.pop.new.self; at = c.moves.state.at; events = c.moves.state.events }) c.in_err-advance.field-0.0 l c.in_err-advance.ensures.err)
+    rw (p.1, p.2) (stopped c.args.edition c.args.tokens.now (starting_with c.args.steps.now c.args.at) _ c.args.at (record { stack = c.pop.new.self; at = c.moves.state.at; events = c.moves.state.events }) c.in_err-advance.field-0.0 l (rw c.in_ok-jumps.ensures at c.in_err-advance.ensures.err))
 
 pub returns-in_err-advance-clause-stopped : goal.returns-in_err-advance-clause-stopped
 returns-in_err-advance-clause-stopped c =
     let p = err_from_is_err_and c.from_residual-in_err-advance.result c.from_residual-in_err-advance.ensures.1 in
     let d = rw c.in-Some.ensures at c.moves.invariant.1 in
-    rw (p.1, p.2) (halted _ c.args.edition c.args.tokens.now _ c.moves.state.at c.moves.state.events.items c.in_err-advance.field-0.0 _ _ d refl c.in_err-advance.ensures.err)
+    rw (p.1, p.2) (halted _ c.args.edition c.args.tokens.now _ c.moves.state.at c.moves.state.events.items c.in_err-advance.field-0.0 _ _ d refl (rw c.in_ok-jumps.ensures at c.in_err-advance.ensures.err))
 
 pub returns-clause-outcome : goal.returns-clause-outcome
 returns-clause-outcome c =

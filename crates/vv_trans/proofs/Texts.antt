@@ -1,0 +1,86 @@
+-- What the machine tells of a file's elements, told by the productions of the grammar.
+use Rattle.std.proofs.Common.{◌≡◌, ℕ, List, [], ◌∷◌, ◌++◌, All, Some, None, slice_get, drop, refl, sym, ap, ◌∙◌, subst}
+use Rattle.std.proofs.lemmas.List.Elements.{All-head, All-tail}
+use Rattle.std.proofs.lemmas.List.{append-nil}
+use Rattle.vv_base.specs.declared.rules.Rule.TheVariants.{Y1, Y2}
+use Rattle.vv_vlex.specs.Elements.{Lexeme}
+use Rattle.vv_vlex.specs.Lexical.{Broken}
+use Rattle.vv_vlex_laws.proofs.Cuts.{only_cut}
+use Rattle.vv_grammar.specs.Machine.{Outcome, reads, misplaced, too_deep, starting_with}
+use Rattle.vv_grammar.specs.declared.terminal.Terminal.{Terminal}
+use Rattle.vv_grammar.specs.declared.edition.Edition.TheVariants as edition
+use Rattle.vv_grammar_laws.specs.Starts.{file as whole_file, steps_for}
+use Rattle.vv_grammar_laws.proofs.Driven.{Told, outcome-told, driven_reads, driven_refuses, driven_deep}
+use Rattle.vv_grammar_laws.proofs.Deep.{deep_in}
+use Rattle.vv_grammar_laws.proofs.Ends.{never_refused}
+use Rattle.vv_grammar_laws.proofs.Back.{same_derivation}
+use Rattle.vv_grammar_laws.specs.Depths.{outermost, IsTooDeepAt}
+use Rattle.vv_productions.proofs.Readings.{misplaced-of}
+use Rattle.vv_productions.proofs.Main.{admits}
+use Rattle.vv_vlex_laws.specs.Cut.{IsCutOf}
+use Rattle.vv_trans.proofs.Ending.{all_derived}
+use Rattle.vv_grammar.specs.Terminals.{terminals_of_elements}
+use Rattle.vv_trans.specs.Parsing.{offset_of, judged, judged_of, parsed, syntax}
+use Rattle.vv_trans.specs.Syntax.{IsText, IsNoText, misplaced_at, deep_at}
+use Rattle.vv_trans.specs.Translation.{HasElements, HasSyntax}
+
+some_none : (b : Broken) → Some b ≡ None → ⊥
+some_none b e = cc
+
+same_broken : (a b : Broken) → Some a ≡ Some b → a ≡ b
+same_broken a b e = cc
+
+none_some : (b : Broken) → None ≡ Some b → ⊥
+none_some b e = cc
+
+read_text : (bytes : List ℕ) (ls : List Lexeme) → IsCutOf bytes ls → (o : Outcome) → parsed (terminals_of_elements ls) ≡ o → judged ls o ≡ None → IsText ls
+read_text bytes ls cut (reads es b) h e =
+    let r = driven_reads edition.Vhdl93 whole_file (terminals_of_elements ls) 0 b es h in
+    let none : drop b (terminals_of_elements ls) ≡ [] = all_derived bytes ls cut edition.Vhdl93 r.tokens (drop b (terminals_of_elements ls)) es r.derives r.between.split in
+    let all : r.tokens ≡ terminals_of_elements ls = sym (r.between.split ∙ ap (λ (x : List Terminal). r.tokens ++ x) none ∙ append-nil r.tokens) in
+    let d = same_derivation edition.Vhdl93 (steps_for whole_file) (steps_for whole_file) r.tokens (terminals_of_elements ls) es refl all r.derives (outermost (steps_for whole_file) 0) 0 in
+    record {
+      events = es;
+      matches = admits edition.Vhdl93 whole_file (terminals_of_elements ls) es d.0;
+      derives = d.0;
+      shallow = λ n i. r.shallow n (subst (IsTooDeepAt n) (sym d.1) i);
+    }
+read_text bytes ls cut (misplaced n) h e = absurd (some_none (record { rule = Y1; at = offset_of (slice_get ls n) }) e)
+read_text bytes ls cut (too_deep n) h e = absurd (some_none (record { rule = Y2; at = offset_of (slice_get ls n) }) e)
+
+text_passes : (ls : List Lexeme) → IsText ls → (o : Outcome) → Told edition.Vhdl93 (terminals_of_elements ls) (starting_with (steps_for whole_file) 0) 0 o → judged ls o ≡ None
+text_passes ls t (reads es b) h = refl
+text_passes ls t (misplaced n) h = absurd (never_refused edition.Vhdl93 whole_file (terminals_of_elements ls) 0 n t.events t.derives h)
+text_passes ls t (too_deep n) h = absurd (t.shallow n (deep_in edition.Vhdl93 whole_file (terminals_of_elements ls) 0 n t.events t.derives h))
+
+refused_text : (ls : List Lexeme) (b : Broken) (o : Outcome) → parsed (terminals_of_elements ls) ≡ o → judged ls o ≡ Some b → IsNoText ls b
+refused_text ls b (reads es n) h e = absurd (none_some b e)
+refused_text ls b (misplaced n) h e =
+    let r = driven_refuses edition.Vhdl93 whole_file (terminals_of_elements ls) 0 n h in
+    subst (IsNoText ls) (same_broken (record { rule = Y1; at = offset_of (slice_get ls n) }) b e) (misplaced_at n (misplaced-of edition.Vhdl93 whole_file (terminals_of_elements ls) 0 n r) r)
+refused_text ls b (too_deep n) h e =
+    subst (IsNoText ls) (same_broken (record { rule = Y2; at = offset_of (slice_get ls n) }) b e) (deep_at n (driven_deep edition.Vhdl93 whole_file (terminals_of_elements ls) 0 n h))
+
+judged_by : (file : List ℕ) (h : HasElements file) → syntax file ≡ judged h.elements (parsed (terminals_of_elements h.elements))
+unfolding syntax
+judged_by file h = ap judged_of (only_cut file h.elements h.short h.cut)
+
+-- a file that is passed is a text
+pub has_syntax : (file : List ℕ) → HasElements file → syntax file ≡ None → HasSyntax file
+has_syntax file h e = record { lexical = h; text = read_text file h.elements h.cut (parsed (terminals_of_elements h.elements)) refl (sym (judged_by file h) ∙ e) }
+
+-- a text passes
+pub passes : (file : List ℕ) → HasSyntax file → syntax file ≡ None
+passes file h =
+    judged_by file h.lexical
+    ∙ text_passes h.lexical.elements h.text (parsed (terminals_of_elements h.lexical.elements))
+    (outcome-told edition.Vhdl93 (terminals_of_elements h.lexical.elements) (starting_with (steps_for whole_file) 0) 0)
+
+-- a file that is refused is none
+pub no_text : (file : List ℕ) (b : Broken) (h : HasElements file) → syntax file ≡ Some b → IsNoText h.elements b
+no_text file b h e = refused_text h.elements b (parsed (terminals_of_elements h.elements)) refl (sym (judged_by file h) ∙ e)
+
+-- the file behind those that come before it
+pub one_behind : (before more : List (List ℕ)) (file : List ℕ) → All HasElements (before ++ (file ∷ more)) → HasElements file
+one_behind [] more file all = All-head HasElements file more all
+one_behind (x ∷ before) more file all = one_behind before more file (All-tail HasElements x (before ++ (file ∷ more)) all)
