@@ -4,9 +4,11 @@ use Rattle.std.proofs.lemmas.Bool.{false≢true, and_parts}
 use Rattle.vv_base.specs.declared.fault.Span.{Span}
 use Rattle.vv_grammar.specs.declared.form.Form.{Form}
 use Rattle.vv_grammar.specs.declared.terminal.Terminal.{Terminal}
-use Rattle.vv_grammar.specs.Trees.{Tree, Trees, leaf, node, list, absent, none, more, Shape, absent_shape, empty_shape, add_shape, one_shape, same_shape, bare_shape, parts, opened, shape_of, node_of, opened_of, by_shape, make}
+use Rattle.vv_grammar.specs.Trees.{Tree, Trees, leaf, node, list, absent, none, more, shape_of, node_of, opened_of, by_shape, make}
 use Rattle.vv_productions.specs.Phrases as p
 use Rattle.vv_productions.specs.Phrases.{Production, Phrase, skip, keep, rule, ◌▸◌, ◌or◌, option, many}
+use Rattle.vv_grammar.specs.declared.shape.Shape.{Shape}
+use Rattle.vv_grammar.specs.declared.shape.Shape.TheVariants as shape
 
 pub data Value : Type 0 where
   a_list : Value
@@ -47,17 +49,17 @@ tree_on (Some ks) = Some (a_tree ∷ ks)
 
 -- what a form leaves
 abbrev pub formed : Shape → List Value → Option (List Value)
-formed absent_shape ks = Some (a_tree ∷ ks)
-formed empty_shape ks = Some (a_list ∷ ks)
-formed add_shape (k ∷ a_list ∷ ks) = Some (a_list ∷ ks)
-formed add_shape _ = None
-formed one_shape (k ∷ ks) = Some (a_list ∷ ks)
-formed one_shape [] = None
-formed same_shape ks = Some ks
-formed bare_shape (k ∷ ks) = Some (a_tree ∷ ks)
-formed bare_shape [] = None
-formed (parts n) ks = tree_on (without_first n ks)
-formed (opened n) ks = tree_on (without_first (suc n) ks)
+formed shape.Absent ks = Some (a_tree ∷ ks)
+formed shape.Empty ks = Some (a_list ∷ ks)
+formed shape.Add (k ∷ a_list ∷ ks) = Some (a_list ∷ ks)
+formed shape.Add _ = None
+formed shape.One (k ∷ ks) = Some (a_list ∷ ks)
+formed shape.One [] = None
+formed shape.Same ks = Some ks
+formed shape.Bare (k ∷ ks) = Some (a_tree ∷ ks)
+formed shape.Bare [] = None
+formed (shape.Parts n) ks = tree_on (without_first n ks)
+formed (shape.Opened n) ks = tree_on (without_first (suc n) ks)
 
 abbrev pub IsSome_values : Option (List Value) → Type 0
 IsSome_values None = ⊥
@@ -82,26 +84,26 @@ opened-values (suc n) f last ts (k ∷ ks) [] h = absurd h
 opened-values (suc n) f last ts (k ∷ ks) (t ∷ V) h = opened-values n f last (more t ts) ks V h.1
 
 shape-values : (s : Shape) (f : Form) (last : Span) (ks : List Value) (V : List Tree) → AreValues ks V → OnValues (formed s ks) (by_shape s f last V)
-shape-values absent_shape f last ks V h = (tt, h)
-shape-values empty_shape f last ks V h = (tt, h)
-shape-values add_shape f last [] V h = tt
-shape-values add_shape f last (k ∷ []) V h = tt
-shape-values add_shape f last (k ∷ a_tree ∷ ks) V h = tt
-shape-values add_shape f last (k ∷ a_list ∷ ks) [] h = absurd h
-shape-values add_shape f last (k ∷ a_list ∷ ks) (t ∷ []) h = absurd h.1
-shape-values add_shape f last (k ∷ a_list ∷ ks) (t ∷ leaf x ∷ V) h = absurd h.1.0
-shape-values add_shape f last (k ∷ a_list ∷ ks) (t ∷ node g ts s ∷ V) h = absurd h.1.0
-shape-values add_shape f last (k ∷ a_list ∷ ks) (t ∷ absent ∷ V) h = absurd h.1.0
-shape-values add_shape f last (k ∷ a_list ∷ ks) (t ∷ list ts ∷ V) h = (tt, h.1.1)
-shape-values one_shape f last [] V h = tt
-shape-values one_shape f last (k ∷ ks) [] h = absurd h
-shape-values one_shape f last (k ∷ ks) (t ∷ V) h = (tt, h.1)
-shape-values same_shape f last ks V h = h
-shape-values bare_shape f last [] V h = tt
-shape-values bare_shape f last (k ∷ ks) [] h = absurd h
-shape-values bare_shape f last (k ∷ ks) (t ∷ V) h = (tt, h.1)
-shape-values (parts n) f last ks V h = node-values n f last none ks V h
-shape-values (opened n) f last ks V h = opened-values n f last none ks V h
+shape-values shape.Absent f last ks V h = (tt, h)
+shape-values shape.Empty f last ks V h = (tt, h)
+shape-values shape.Add f last [] V h = tt
+shape-values shape.Add f last (k ∷ []) V h = tt
+shape-values shape.Add f last (k ∷ a_tree ∷ ks) V h = tt
+shape-values shape.Add f last (k ∷ a_list ∷ ks) [] h = absurd h
+shape-values shape.Add f last (k ∷ a_list ∷ ks) (t ∷ []) h = absurd h.1
+shape-values shape.Add f last (k ∷ a_list ∷ ks) (t ∷ leaf x ∷ V) h = absurd h.1.0
+shape-values shape.Add f last (k ∷ a_list ∷ ks) (t ∷ node g ts s ∷ V) h = absurd h.1.0
+shape-values shape.Add f last (k ∷ a_list ∷ ks) (t ∷ absent ∷ V) h = absurd h.1.0
+shape-values shape.Add f last (k ∷ a_list ∷ ks) (t ∷ list ts ∷ V) h = (tt, h.1.1)
+shape-values shape.One f last [] V h = tt
+shape-values shape.One f last (k ∷ ks) [] h = absurd h
+shape-values shape.One f last (k ∷ ks) (t ∷ V) h = (tt, h.1)
+shape-values shape.Same f last ks V h = h
+shape-values shape.Bare f last [] V h = tt
+shape-values shape.Bare f last (k ∷ ks) [] h = absurd h
+shape-values shape.Bare f last (k ∷ ks) (t ∷ V) h = (tt, h.1)
+shape-values (shape.Parts n) f last ks V h = node-values n f last none ks V h
+shape-values (shape.Opened n) f last ks V h = opened-values n f last none ks V h
 
 pub make-values : (f : Form) (last : Span) (ks ls : List Value) (V : List Tree) → formed (shape_of f) ks ≡ Some ls → AreValues ks V → AreValues ls (make f last V)
 make-values f last ks ls V h v = subst (λ (o : Option (List Value)). OnValues o (make f last V)) h (shape-values (shape_of f) f last ks V v)
@@ -183,19 +185,19 @@ without-append (suc n) [] ls rs h = absurd (subst IsSome_values (sym h) tt)
 without-append (suc n) (k ∷ ks) ls rs h = without-append n ks ls rs h
 
 formed-append : (s : Shape) (ks ls rs : List Value) → formed s ks ≡ Some ls → formed s (ks ++ rs) ≡ Some (ls ++ rs)
-formed-append absent_shape ks ls rs h = ap (appended rs) h
-formed-append empty_shape ks ls rs h = ap (appended rs) h
-formed-append add_shape [] ls rs h = absurd (subst IsSome_values (sym h) tt)
-formed-append add_shape (k ∷ []) ls rs h = absurd (subst IsSome_values (sym h) tt)
-formed-append add_shape (k ∷ a_tree ∷ ks) ls rs h = absurd (subst IsSome_values (sym h) tt)
-formed-append add_shape (k ∷ a_list ∷ ks) ls rs h = ap (appended rs) h
-formed-append one_shape [] ls rs h = absurd (subst IsSome_values (sym h) tt)
-formed-append one_shape (k ∷ ks) ls rs h = ap (appended rs) h
-formed-append same_shape ks ls rs h = ap (appended rs) h
-formed-append bare_shape [] ls rs h = absurd (subst IsSome_values (sym h) tt)
-formed-append bare_shape (k ∷ ks) ls rs h = ap (appended rs) h
-formed-append (parts n) ks ls rs h = without-append n ks ls rs h
-formed-append (opened n) ks ls rs h = without-append (suc n) ks ls rs h
+formed-append shape.Absent ks ls rs h = ap (appended rs) h
+formed-append shape.Empty ks ls rs h = ap (appended rs) h
+formed-append shape.Add [] ls rs h = absurd (subst IsSome_values (sym h) tt)
+formed-append shape.Add (k ∷ []) ls rs h = absurd (subst IsSome_values (sym h) tt)
+formed-append shape.Add (k ∷ a_tree ∷ ks) ls rs h = absurd (subst IsSome_values (sym h) tt)
+formed-append shape.Add (k ∷ a_list ∷ ks) ls rs h = ap (appended rs) h
+formed-append shape.One [] ls rs h = absurd (subst IsSome_values (sym h) tt)
+formed-append shape.One (k ∷ ks) ls rs h = ap (appended rs) h
+formed-append shape.Same ks ls rs h = ap (appended rs) h
+formed-append shape.Bare [] ls rs h = absurd (subst IsSome_values (sym h) tt)
+formed-append shape.Bare (k ∷ ks) ls rs h = ap (appended rs) h
+formed-append (shape.Parts n) ks ls rs h = without-append n ks ls rs h
+formed-append (shape.Opened n) ks ls rs h = without-append (suc n) ks ls rs h
 
 -- values below don't matter
 pub typed-append : (a : Phrase) (ks ls rs : List Value) → Typed a ks ls → Typed a (ks ++ rs) (ls ++ rs)
