@@ -5,8 +5,6 @@
 mod design;
 mod expressions;
 pub mod laws;
-#[cfg(test)]
-mod making_tests;
 mod plan;
 mod statements;
 #[cfg(test)]

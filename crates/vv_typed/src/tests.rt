@@ -5,19 +5,19 @@ use std::test::Fail;
 use vv_base::fault::{Memory, Span};
 use vv_bits::S9;
 
-pub(crate) const HERE: Span = Span {
+const HERE: Span = Span {
     file: 0,
     at: 7,
     len: 1,
 };
 
-pub(crate) fn one<T: Drop>(alloc: Global, item: T) -> Result<Items<T>, Memory> {
+fn one<T: Drop>(alloc: Global, item: T) -> Result<Items<T>, Memory> {
     let mut items = Items::new(alloc);
     items.push(item)?;
     Ok(items)
 }
 
-pub(crate) fn two<T: Drop>(alloc: Global, first: T, second: T) -> Result<Items<T>, Memory> {
+fn two<T: Drop>(alloc: Global, first: T, second: T) -> Result<Items<T>, Memory> {
     let mut items = one(alloc, first)?;
     items.push(second)?;
     Ok(items)
