@@ -19,9 +19,9 @@ use vv_base::files::FileShelf;
 use vv_base::names::Names;
 use vv_base::shelf::{LoadFault, Shelf};
 use vv_grammar::edition::Edition;
-use vv_grammar::machine::{Stop, run};
 use vv_grammar::starts::FILE;
 use vv_grammar::terminal::terminals;
+use vv_machine::machine::{Stop, run};
 use vv_vlex::token::Token;
 use vv_vlex::tokens::lex;
 

@@ -1,5 +1,3 @@
 pub mod Terminals
 pub mod Trees
 pub mod Table
-pub mod Machine
-pub mod Jumps

@@ -13,7 +13,7 @@ use Rattle.vv_grammar.specs.declared.step.Take.TheVariants as take
 use Rattle.vv_grammar.specs.declared.terminal.Terminal.{Terminal}
 use Rattle.vv_grammar.specs.Terminals.{same, contains}
 use Rattle.vv_grammar.specs.Table.{Choice, alternatives, otherwise}
-use Rattle.vv_grammar.specs.Machine.{Turn, turn, choose, chosen, takes, as_part}
+use Rattle.vv_machine.specs.Machine.{Turn, turn, choose, chosen, takes, as_part}
 use Rattle.vv_grammar_laws.specs.Derivations.{IsAmong, first as here, later, left, noted, Derives, make, skip, keep, call, pass, stop, more}
 use Rattle.vv_grammar_laws.proofs.Plain.{Act, goes, stuck, over, turned, called, repeated, act, head, behind}
 

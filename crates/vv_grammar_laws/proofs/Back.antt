@@ -5,7 +5,7 @@ use Rattle.vv_grammar.specs.declared.event.Event.{Event}
 use Rattle.vv_grammar.specs.declared.event.Event.TheVariants as event
 use Rattle.vv_grammar.specs.declared.form.Form.TheVariants as form
 use Rattle.vv_grammar.specs.declared.place.Place.{Place}
-use Rattle.vv_grammar.specs.declared.stack.Pending.{Pending}
+use Rattle.vv_machine.specs.declared.stack.Pending.{Pending}
 use Rattle.vv_grammar.specs.declared.step.Level.{Level}
 use Rattle.vv_grammar.specs.declared.step.Step.{Step}
 use Rattle.vv_grammar.specs.declared.step.Step.TheVariants as step
@@ -14,8 +14,8 @@ use Rattle.vv_grammar.specs.declared.step.Take.TheVariants as take
 use Rattle.vv_grammar.specs.declared.terminal.Terminal.{Terminal}
 use Rattle.vv_grammar.specs.Terminals.{same, contains}
 use Rattle.vv_grammar.specs.Table.{Choice, alternatives, otherwise, level_of}
-use Rattle.vv_grammar.specs.Machine as machine
-use Rattle.vv_grammar.specs.Machine.{Turn, turn, takes, as_part, chosen, next_terminal, inside, starting, as_step, begun, steps_in}
+use Rattle.vv_machine.specs.Machine as machine
+use Rattle.vv_machine.specs.Machine.{Turn, turn, takes, as_part, chosen, next_terminal, inside, starting, as_step, begun, steps_in}
 use Rattle.vv_grammar_laws.specs.Derivations.{IsAmong, left, noted, Derives, make, skip, keep, call, pass, stop, more}
 use Rattle.vv_grammar_laws.proofs.Plain.{head}
 use Rattle.vv_grammar_laws.proofs.Acts.{IsTurn, Chosen, chosen-turn}

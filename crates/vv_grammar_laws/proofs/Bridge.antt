@@ -6,7 +6,7 @@ use Rattle.vv_grammar.specs.declared.event.Event.{Event}
 use Rattle.vv_grammar.specs.declared.event.Event.TheVariants as event
 use Rattle.vv_grammar.specs.declared.form.Form.TheVariants as form
 use Rattle.vv_grammar.specs.declared.place.Place.{Place}
-use Rattle.vv_grammar.specs.declared.stack.Pending.{Pending}
+use Rattle.vv_machine.specs.declared.stack.Pending.{Pending}
 use Rattle.vv_grammar.specs.declared.step.Step.{Step}
 use Rattle.vv_grammar.specs.declared.step.Step.TheVariants as step
 use Rattle.vv_grammar.specs.declared.step.Take.{Take}
@@ -14,8 +14,8 @@ use Rattle.vv_grammar.specs.declared.step.Take.TheVariants as take
 use Rattle.vv_grammar.specs.declared.terminal.Terminal.{Terminal}
 use Rattle.vv_grammar.specs.Terminals.{same}
 use Rattle.vv_grammar.specs.Table.{otherwise, level_of}
-use Rattle.vv_grammar.specs.Machine as machine
-use Rattle.vv_grammar.specs.Machine.{Turn, turn, chosen, next_terminal, inside, starting, as_step, begun, steps_in, Leads, here, further}
+use Rattle.vv_machine.specs.Machine as machine
+use Rattle.vv_machine.specs.Machine.{Turn, turn, chosen, next_terminal, inside, starting, as_step, begun, steps_in, Leads, here, further}
 use Rattle.vv_grammar_laws.specs.Derivations.{noted}
 use Rattle.vv_grammar_laws.specs.Starts.{AreBetween}
 use Rattle.vv_grammar_laws.proofs.Plain as plain

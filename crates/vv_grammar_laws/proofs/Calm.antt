@@ -8,7 +8,7 @@ use Rattle.vv_grammar.specs.declared.event.Event.TheVariants as event
 use Rattle.vv_grammar.specs.declared.form.Form.TheVariants as form
 use Rattle.vv_grammar.specs.declared.place.Place.{Place}
 use Rattle.vv_grammar.specs.declared.place.Place.TheVariants as place
-use Rattle.vv_grammar.specs.declared.stack.Pending.{Pending}
+use Rattle.vv_machine.specs.declared.stack.Pending.{Pending}
 use Rattle.vv_grammar.specs.declared.step.Level.{Level}
 use Rattle.vv_grammar.specs.declared.step.Level.TheVariants as level
 use Rattle.vv_grammar.specs.declared.step.Step.{Step}
@@ -18,8 +18,8 @@ use Rattle.vv_grammar.specs.declared.step.Take.TheVariants as take
 use Rattle.vv_grammar.specs.declared.terminal.Terminal.{Terminal}
 use Rattle.vv_grammar.specs.Terminals.{same}
 use Rattle.vv_grammar.specs.Table.{Choice, alternatives, otherwise, level_of}
-use Rattle.vv_grammar.specs.Machine as machine
-use Rattle.vv_grammar.specs.Machine.{Turn, takes, as_part, turn, choose, chosen, next_terminal, inside, starting, as_step, begun, steps_in, Leads, here, further}
+use Rattle.vv_machine.specs.Machine as machine
+use Rattle.vv_machine.specs.Machine.{Turn, takes, as_part, turn, choose, chosen, next_terminal, inside, starting, as_step, begun, steps_in, Leads, here, further}
 use Rattle.vv_grammar_laws.specs.Derivations.{IsAmong, first, later}
 use Rattle.vv_grammar_laws.proofs.Acts.{Chosen, chosen-turn}
 

@@ -4,13 +4,13 @@ use Rattle.std.proofs.lemmas.List.{append-nil}
 use Rattle.vv_grammar.specs.declared.edition.Edition.{Edition}
 use Rattle.vv_grammar.specs.declared.event.Event.{Event}
 use Rattle.vv_grammar.specs.declared.form.Form.TheVariants as form
-use Rattle.vv_grammar.specs.declared.machine.Stop.TheVariants as stop
-use Rattle.vv_grammar.specs.declared.stack.Pending.{Pending}
+use Rattle.vv_machine.specs.declared.machine.Stop.TheVariants as stop
+use Rattle.vv_machine.specs.declared.stack.Pending.{Pending}
 use Rattle.vv_grammar.specs.declared.step.Step.{Step}
 use Rattle.vv_grammar.specs.declared.step.Step.TheVariants as step
 use Rattle.vv_grammar.specs.declared.terminal.Terminal.{Terminal}
-use Rattle.vv_grammar.specs.Machine as machine
-use Rattle.vv_grammar.specs.Machine.{next_terminal, levels, starting_with, Leads, here, further, Halts}
+use Rattle.vv_machine.specs.Machine as machine
+use Rattle.vv_machine.specs.Machine.{next_terminal, levels, starting_with, Leads, here, further, Halts}
 use Rattle.vv_grammar_laws.specs.Derivations.{Derives}
 use Rattle.vv_grammar_laws.specs.Starts.{Start, steps_for}
 use Rattle.vv_grammar_laws.proofs.Plain as plain

@@ -3,16 +3,16 @@ use Rattle.std.proofs.Common.{◌≡◌, ℕ, zero, suc, ◌+◌, ◌*◌, ◌<�
 use Rattle.vv_grammar.specs.declared.edition.Edition.{Edition}
 use Rattle.vv_grammar.specs.declared.event.Event.{Event}
 use Rattle.vv_grammar.specs.declared.event.Event.TheVariants as event
-use Rattle.vv_grammar.specs.declared.machine.Stop.TheVariants as stop
-use Rattle.vv_grammar.specs.declared.stack.Pending.{Pending}
+use Rattle.vv_machine.specs.declared.machine.Stop.TheVariants as stop
+use Rattle.vv_machine.specs.declared.stack.Pending.{Pending}
 use Rattle.vv_grammar.specs.declared.step.Step.{Step}
 use Rattle.vv_grammar.specs.declared.step.Step.TheVariants as step
 use Rattle.vv_grammar.specs.declared.terminal.Terminal.{Terminal}
 use Rattle.vv_grammar.specs.Terminals.{same}
 use Rattle.vv_grammar.specs.Table.{otherwise}
-use Rattle.vv_grammar.specs.Machine as machine
-use Rattle.vv_grammar.specs.Machine.{Turn, Outcome, Leads, here, further, Halts, chosen, drive, enough, outcome, outcome_behind, next_terminal, starting_with}
-use Rattle.vv_grammar.proofs.Weights.{measure, Falls, falls, fell_to, going_on_as, driven_on, enough_moves}
+use Rattle.vv_machine.specs.Machine as machine
+use Rattle.vv_machine.specs.Machine.{Turn, Outcome, Leads, here, further, Halts, chosen, drive, enough, outcome, outcome_behind, next_terminal, starting_with}
+use Rattle.vv_machine.proofs.Weights.{measure, Falls, falls, fell_to, going_on_as, driven_on, enough_moves}
 use Rattle.vv_grammar_laws.specs.Starts.{Start, steps_for}
 use Rattle.vv_grammar_laws.specs.Readings.{IsReading, IsRefusal, IsDeep}
 use Rattle.vv_grammar_laws.proofs.Plain as plain

@@ -3,12 +3,12 @@ use Rattle.std.proofs.Common.{◌≡◌, ℕ, true, List, [], ◌∷◌, ◌++�
 use Rattle.std.proofs.lemmas.List.{append-nil, append_cancel_right}
 use Rattle.vv_grammar.specs.declared.edition.Edition.{Edition}
 use Rattle.vv_grammar.specs.declared.event.Event.{Event}
-use Rattle.vv_grammar.specs.declared.machine.Stop.TheVariants as stop
-use Rattle.vv_grammar.specs.declared.stack.Pending.{Pending}
+use Rattle.vv_machine.specs.declared.machine.Stop.TheVariants as stop
+use Rattle.vv_machine.specs.declared.stack.Pending.{Pending}
 use Rattle.vv_grammar.specs.declared.step.Step.{Step}
 use Rattle.vv_grammar.specs.declared.terminal.Terminal.{Terminal}
-use Rattle.vv_grammar.specs.Machine as machine
-use Rattle.vv_grammar.specs.Machine.{next_terminal, levels, starting_with, Leads, Halts}
+use Rattle.vv_machine.specs.Machine as machine
+use Rattle.vv_machine.specs.Machine.{next_terminal, levels, starting_with, Leads, Halts}
 use Rattle.vv_grammar.specs.declared.form.Form.TheVariants as form
 use Rattle.vv_grammar.specs.declared.step.Step.TheVariants as step
 use Rattle.vv_grammar_laws.specs.Derivations.{Derives, IsViable}

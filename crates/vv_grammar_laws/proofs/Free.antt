@@ -3,11 +3,11 @@ use Rattle.std.proofs.Common.{◌≡◌, inl, inr, ℕ, suc, ◌+◌, ◌≤◌,
 use Rattle.std.proofs.lemmas.List.{length-append, append-nil}
 use Rattle.vv_grammar.specs.declared.edition.Edition.{Edition}
 use Rattle.vv_grammar.specs.declared.event.Event.{Event}
-use Rattle.vv_grammar.specs.declared.stack.Pending.{Pending}
+use Rattle.vv_machine.specs.declared.stack.Pending.{Pending}
 use Rattle.vv_grammar.specs.declared.step.Step.{Step}
 use Rattle.vv_grammar.specs.declared.terminal.Terminal.{Terminal}
-use Rattle.vv_grammar.specs.Machine as machine
-use Rattle.vv_grammar.specs.Machine.{next_terminal, levels, steps_in, Leads, here, further}
+use Rattle.vv_machine.specs.Machine as machine
+use Rattle.vv_machine.specs.Machine.{next_terminal, levels, steps_in, Leads, here, further}
 use Rattle.vv_grammar_laws.specs.Derivations.{Derives, done, make, skip, keep, call, pass, stop, more}
 use Rattle.vv_grammar_laws.specs.Depths.{Opening, openings, IsTooDeepAt}
 use Rattle.vv_grammar_laws.specs.Starts.{AreBetween}

@@ -5,7 +5,7 @@ use Rattle.vv_grammar.specs.declared.edition.Edition.{Edition}
 use Rattle.vv_grammar.specs.declared.event.Event.{Event}
 use Rattle.vv_grammar.specs.declared.event.Event.TheVariants as event
 use Rattle.vv_grammar.specs.declared.form.Form.TheVariants as form
-use Rattle.vv_grammar.specs.declared.stack.Pending.{Pending}
+use Rattle.vv_machine.specs.declared.stack.Pending.{Pending}
 use Rattle.vv_grammar.specs.declared.step.Level.{Level}
 use Rattle.vv_grammar.specs.declared.step.Level.TheVariants as level
 use Rattle.vv_grammar.specs.declared.step.Step.{Step}
@@ -14,8 +14,8 @@ use Rattle.vv_grammar.specs.declared.step.Take.{Take}
 use Rattle.vv_grammar.specs.declared.step.Take.TheVariants as take
 use Rattle.vv_grammar.specs.declared.terminal.Terminal.{Terminal}
 use Rattle.vv_grammar.specs.Table.{Choice, otherwise, level_of}
-use Rattle.vv_grammar.specs.Machine as machine
-use Rattle.vv_grammar.specs.Machine.{Turn, turn, takes, as_part, chosen, next_terminal, levels, fewer, with_expressions, with_statements, inside, starting, as_step, begun, steps_in}
+use Rattle.vv_machine.specs.Machine as machine
+use Rattle.vv_machine.specs.Machine.{Turn, turn, takes, as_part, chosen, next_terminal, levels, fewer, with_expressions, with_statements, inside, starting, as_step, begun, steps_in}
 use Rattle.vv_grammar_laws.specs.Derivations.{left, Derives, done, make, skip, keep, call, pass, stop, more}
 use Rattle.vv_grammar_laws.proofs.Sets.{follow}
 use Rattle.vv_grammar_laws.proofs.Followed.{Good, good-append, starts, is_else}

@@ -11,7 +11,7 @@ use Rattle.vv_grammar.specs.declared.step.Step.TheVariants as step
 use Rattle.vv_grammar.specs.declared.terminal.Terminal.{Terminal}
 use Rattle.vv_grammar.specs.Terminals.{same, contains}
 use Rattle.vv_grammar.specs.Table.{Choice, alternatives, otherwise}
-use Rattle.vv_grammar.specs.Machine.{Turn, turn, choose, chosen, takes, as_part}
+use Rattle.vv_machine.specs.Machine.{Turn, turn, choose, chosen, takes, as_part}
 use Rattle.vv_grammar.specs.declared.step.Take.{Take}
 use Rattle.vv_grammar.specs.declared.step.Take.TheVariants as take
 use Rattle.vv_grammar_laws.specs.Derivations.{IsAmong, first as here, later, left, noted, Derives, done, make, skip, keep, call, pass, stop, more}

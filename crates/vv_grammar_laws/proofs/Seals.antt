@@ -17,7 +17,7 @@ use Rattle.vv_grammar_laws.specs.Derivations.{IsAmong, first as here, later, Der
 use Rattle.vv_grammar_laws.proofs.Sets.{empty}
 use Rattle.vv_grammar_laws.proofs.Check.{nulls}
 use Rattle.vv_grammar_laws.proofs.Followed.{is_else}
-use Rattle.vv_grammar.specs.Machine.{takes}
+use Rattle.vv_machine.specs.Machine.{takes}
 use Rattle.vv_grammar_laws.proofs.Acts.{Acts, made, skipped, kept, chose, passed, stopped, again}
 
 abbrev pub is_closed : Place → Bool

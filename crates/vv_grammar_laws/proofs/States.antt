@@ -5,7 +5,7 @@ use Rattle.vv_grammar.specs.declared.event.Event.{Event}
 use Rattle.vv_grammar.specs.declared.event.Event.TheVariants as event
 use Rattle.vv_grammar.specs.declared.form.Form.TheVariants as form
 use Rattle.vv_grammar.specs.declared.place.Place.{Place}
-use Rattle.vv_grammar.specs.declared.stack.Pending.{Pending}
+use Rattle.vv_machine.specs.declared.stack.Pending.{Pending}
 use Rattle.vv_grammar.specs.declared.step.Level.{Level}
 use Rattle.vv_grammar.specs.declared.step.Level.TheVariants as level
 use Rattle.vv_grammar.specs.declared.step.Step.{Step}
@@ -15,8 +15,8 @@ use Rattle.vv_grammar.specs.declared.step.Take.TheVariants as take
 use Rattle.vv_grammar.specs.declared.terminal.Terminal.{Terminal}
 use Rattle.vv_grammar.specs.Terminals.{same}
 use Rattle.vv_grammar.specs.Table.{otherwise, level_of}
-use Rattle.vv_grammar.specs.Machine as machine
-use Rattle.vv_grammar.specs.Machine.{Turn, chosen, next_terminal, levels, fewer, with_expressions, with_statements, inside, starting, as_step, begun, steps_in, starting_with, Leads, here, further, Halts}
+use Rattle.vv_machine.specs.Machine as machine
+use Rattle.vv_machine.specs.Machine.{Turn, chosen, next_terminal, levels, fewer, with_expressions, with_statements, inside, starting, as_step, begun, steps_in, starting_with, Leads, here, further, Halts}
 use Rattle.vv_grammar_laws.proofs.Moves.{Few, AllFew, Entry, entry}
 
 abbrev pub Stands : Pending → ℕ → Type 0

@@ -15,9 +15,9 @@ use Rattle.vv_grammar.specs.declared.terminal.Terminal.{Terminal}
 use Rattle.vv_grammar.specs.declared.terminal.Terminal.TheVariants as the
 use Rattle.vv_grammar.specs.Terminals.{same, contains}
 use Rattle.vv_grammar.specs.Table.{Choice, alternatives, otherwise, level_of}
-use Rattle.vv_grammar.specs.Machine.{steps_in}
+use Rattle.vv_machine.specs.Machine.{steps_in}
 use Rattle.vv_grammar.specs.declared.form.Form.{Form}
-use Rattle.vv_grammar.specs.declared.stack.Pending.{Pending}
+use Rattle.vv_machine.specs.declared.stack.Pending.{Pending}
 use Rattle.vv_grammar.specs.declared.step.Level.{Level}
 use Rattle.vv_grammar.specs.declared.step.Level.TheVariants as level
 use Rattle.vv_grammar_laws.specs.Derivations.{IsAmong, first as here, later, left, noted, Derives, done, make, skip, keep, call, pass, stop}

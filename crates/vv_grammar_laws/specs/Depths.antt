@@ -3,7 +3,7 @@ use Rattle.std.specs.Prelude.{◌≡◌, ◌⊎◌, ℕ, ◌+◌, List, [], ◌�
 use Rattle.vv_grammar.specs.declared.edition.Edition.{Edition}
 use Rattle.vv_grammar.specs.declared.event.Event.{Event}
 use Rattle.vv_grammar.specs.declared.form.Form.TheVariants as form
-use Rattle.vv_grammar.specs.declared.stack.Pending.{Pending}
+use Rattle.vv_machine.specs.declared.stack.Pending.{Pending}
 use Rattle.vv_grammar.specs.declared.step.Level.{Level}
 use Rattle.vv_grammar.specs.declared.step.Level.TheVariants as level
 use Rattle.vv_grammar.specs.declared.step.Step.{Step}
@@ -12,7 +12,7 @@ use Rattle.vv_grammar.specs.declared.step.Take.{Take}
 use Rattle.vv_grammar.specs.declared.step.Take.TheVariants as take
 use Rattle.vv_grammar.specs.declared.terminal.Terminal.{Terminal}
 use Rattle.vv_grammar.specs.Table.{level_of}
-use Rattle.vv_grammar.specs.Machine.{with_expressions, with_statements, as_step, begun, steps_in, levels}
+use Rattle.vv_machine.specs.Machine.{with_expressions, with_statements, as_step, begun, steps_in, levels}
 use Rattle.vv_grammar_laws.specs.Derivations.{Derives, done, make, skip, keep, call, pass, stop, more}
 
 -- An expression or a statement that starts at the token of this number. Its depth counts those of its kind round it, and itself.

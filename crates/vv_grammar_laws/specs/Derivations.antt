@@ -13,7 +13,7 @@ use Rattle.vv_grammar.specs.declared.step.Take.TheVariants as take
 use Rattle.vv_grammar.specs.declared.terminal.Terminal.{Terminal}
 use Rattle.vv_grammar.specs.Terminals.{same, contains}
 use Rattle.vv_grammar.specs.Table.{Choice, alternatives, otherwise}
-use Rattle.vv_grammar.specs.Machine.{takes}
+use Rattle.vv_machine.specs.Machine.{takes}
 
 -- one of the alternatives
 pub data IsAmong : Choice → List Choice → Type 0 where

@@ -3,7 +3,7 @@ use Rattle.std.specs.Prelude.{◌≡◌, ◌≤◌, ◌<◌, ℕ, List, [], ◌�
 use Rattle.vv_grammar.specs.declared.edition.Edition.{Edition}
 use Rattle.vv_grammar.specs.declared.event.Event.{Event}
 use Rattle.vv_grammar.specs.declared.terminal.Terminal.{Terminal}
-use Rattle.vv_grammar.specs.Machine.{next_terminal, starting_with, Leads}
+use Rattle.vv_machine.specs.Machine.{next_terminal, starting_with, Leads}
 use Rattle.vv_grammar_laws.specs.Derivations.{Derives, IsViable}
 use Rattle.vv_grammar_laws.specs.Depths.{openings, outermost, IsTooDeepAt}
 use Rattle.vv_grammar_laws.specs.Starts.{Start, steps_for, AreBetween}

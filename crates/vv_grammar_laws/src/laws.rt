@@ -2,10 +2,10 @@
 
 ghost use Rattle.std.specs.Prelude.{◌≡◌, ℕ, List, [], drop};
 ghost use Rattle.vv_grammar.specs.declared.event.Event.{Event};
-ghost use Rattle.vv_grammar.specs.declared.machine.Stop.TheVariants.{Deep, Misplaced};
-ghost use Rattle.vv_grammar.specs.declared.stack.Pending.{Pending};
+ghost use Rattle.vv_machine.specs.declared.machine.Stop.TheVariants.{Deep, Misplaced};
+ghost use Rattle.vv_machine.specs.declared.stack.Pending.{Pending};
 ghost use Rattle.vv_grammar.specs.declared.terminal.Terminal.{Terminal};
-ghost use Rattle.vv_grammar.specs.Machine.{Halts, Leads, going, misplaced, move, outcome, outcome_behind, reads, starting_with, too_deep};
+ghost use Rattle.vv_machine.specs.Machine.{Halts, Leads, going, misplaced, move, outcome, outcome_behind, reads, starting_with, too_deep};
 ghost use Rattle.vv_grammar_laws.specs.Derivations.{Derives};
 ghost use Rattle.vv_grammar_laws.specs.Readings.{IsDeep, IsReading, IsReadWhole, IsRefusal, IsShallow, IsTooDeep};
 ghost use Rattle.vv_grammar_laws.specs.Starts.{Start, steps_for};

@@ -5,7 +5,7 @@ use Rattle.vv_grammar.specs.declared.edition.Edition.{Edition}
 use Rattle.vv_grammar.specs.declared.place.Place.{Place}
 use Rattle.vv_grammar.specs.declared.place.Place.TheVariants as place
 use Rattle.vv_grammar.specs.Table.{Choice, alternatives, otherwise}
-use Rattle.vv_grammar.specs.Machine.{takes}
+use Rattle.vv_machine.specs.Machine.{takes}
 use Rattle.vv_grammar_laws.specs.Derivations.{IsAmong}
 use Rattle.vv_productions.proofs.Among.{every_choice, every-choice}
 use Rattle.vv_productions.proofs.Traces.{flat}

@@ -5,8 +5,8 @@ use Rattle.vv_vlex.specs.declared.token.Token.{Token}
 use Rattle.vv_grammar.specs.declared.edition.Edition.{Edition}
 use Rattle.vv_grammar.specs.declared.event.Event.{Event}
 use Rattle.vv_grammar.specs.declared.terminal.Terminal.{Terminal}
-use Rattle.vv_grammar.specs.declared.machine.Stop.TheVariants.{Deep}
-use Rattle.vv_grammar.specs.Machine.{next_terminal, starting_with, Leads, Halts}
+use Rattle.vv_machine.specs.declared.machine.Stop.TheVariants.{Deep}
+use Rattle.vv_machine.specs.Machine.{next_terminal, starting_with, Leads, Halts}
 use Rattle.vv_grammar.specs.Terminals.{terminals_of}
 use Rattle.vv_grammar.specs.Trees.{Tree, replay}
 use Rattle.vv_grammar_laws.specs.Starts.{Start, steps_for, AreBetween}

@@ -3,9 +3,9 @@
 ghost use Rattle.std.specs.Prelude.{◌≡◌, ℕ, List, [], ◌∷◌, drop};
 ghost use Rattle.vv_vlex.specs.declared.token.Token.{Token};
 ghost use Rattle.vv_grammar.specs.declared.event.Event.{Event};
-ghost use Rattle.vv_grammar.specs.declared.machine.Stop.TheVariants.{Misplaced};
+ghost use Rattle.vv_machine.specs.declared.machine.Stop.TheVariants.{Misplaced};
 ghost use Rattle.vv_grammar.specs.declared.terminal.Terminal.{Terminal};
-ghost use Rattle.vv_grammar.specs.Machine.{Halts, Leads, starting_with};
+ghost use Rattle.vv_machine.specs.Machine.{Halts, Leads, starting_with};
 ghost use Rattle.vv_grammar.specs.Terminals.{terminals_of};
 ghost use Rattle.vv_grammar.specs.Trees.{Tree};
 ghost use Rattle.vv_grammar_laws.specs.Derivations.{Derives};

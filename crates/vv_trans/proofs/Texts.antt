@@ -6,7 +6,7 @@ use Rattle.vv_base.specs.declared.rules.Rule.TheVariants.{Y1, Y2}
 use Rattle.vv_vlex.specs.Elements.{Lexeme}
 use Rattle.vv_vlex.specs.Lexical.{Broken}
 use Rattle.vv_vlex_laws.proofs.Cuts.{only_cut}
-use Rattle.vv_grammar.specs.Machine.{Outcome, reads, misplaced, too_deep, starting_with}
+use Rattle.vv_machine.specs.Machine.{Outcome, reads, misplaced, too_deep, starting_with}
 use Rattle.vv_grammar.specs.declared.terminal.Terminal.{Terminal}
 use Rattle.vv_grammar.specs.declared.edition.Edition.TheVariants as edition
 use Rattle.vv_grammar_laws.specs.Starts.{file as whole_file, steps_for}

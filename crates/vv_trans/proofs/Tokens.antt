@@ -9,7 +9,7 @@ use Rattle.vv_vlex.specs.Elements.{Element, Lexeme, finish}
 use Rattle.vv_vlex.specs.Lexical.{Broken, Elements, elements_of, placed}
 use Rattle.vv_vlex_laws.specs.Cut.{Piece, text_of, element_for, elements_from, IsCutOf}
 use Rattle.vv_vlex_laws.proofs.Cuts.{cut_of}
-use Rattle.vv_grammar.specs.Machine.{Outcome, reads, misplaced, too_deep}
+use Rattle.vv_machine.specs.Machine.{Outcome, reads, misplaced, too_deep}
 use Rattle.vv_grammar.specs.Terminals.{terminals_of_elements}
 use Rattle.vv_trans.specs.Parsing.{offset_of, judged, judged_of, parsed, syntax}
 use Rattle.vv_trans.specs.Translation.{Report, syntax_report, parsing}

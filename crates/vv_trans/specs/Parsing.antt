@@ -3,7 +3,7 @@ use Rattle.std.specs.Prelude.{ℕ, List, Option, Some, None, Ok, Err, slice_get}
 use Rattle.vv_base.specs.declared.rules.Rule.TheVariants.{Y1, Y2}
 use Rattle.vv_vlex.specs.Elements.{Lexeme}
 use Rattle.vv_vlex.specs.Lexical.{Broken, Elements, elements_of}
-use Rattle.vv_grammar.specs.Machine.{Outcome, reads, misplaced, too_deep, outcome, starting_with}
+use Rattle.vv_machine.specs.Machine.{Outcome, reads, misplaced, too_deep, outcome, starting_with}
 use Rattle.vv_grammar.specs.declared.edition.Edition.TheVariants as edition
 use Rattle.vv_grammar.specs.declared.starts.TheConstants.{FILE}
 use Rattle.vv_grammar.specs.declared.terminal.Terminal.{Terminal}

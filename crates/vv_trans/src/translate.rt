@@ -27,9 +27,9 @@ use vv_gate_read::reader::{ReadFault, read};
 use vv_gate_text::map::map;
 use vv_gate_text::text::text;
 use vv_grammar::edition::Edition;
-use vv_grammar::machine::{Stop, run};
 use vv_grammar::starts::FILE;
 use vv_grammar::terminal::{Terminal, terminals_of_elements};
+use vv_machine::machine::{Stop, run};
 use vv_vlex::element::Lexeme;
 use vv_vlex::lexer::elements;
 
