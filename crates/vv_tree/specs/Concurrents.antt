@@ -68,10 +68,10 @@ conc_kind_step (ConcKind-F.ForGenerate i d ds cs e s) =
 conc_kind_step (ConcKind-F.IfGenerate c ds cs e s) =
     node4 form.IfGenerate (expr_tree c) (trees_of decl_tree ds.now) (list (trees cs.now)) (tree_or_absent ident_tree e) s
 
-abbrev pub conc_tree : Conc → Tree
+unfoldable pub conc_tree : Conc → Tree
 conc_tree = fold-Conc Tree Tree conc_kind_step conc_step
 
-abbrev pub conc_kind_tree : ConcKind → Tree
+unfoldable pub conc_kind_tree : ConcKind → Tree
 conc_kind_tree = fold-ConcKind Tree Tree conc_kind_step conc_step
 
 abbrev pub context_tree : Context → Tree

@@ -61,8 +61,8 @@ decl_kind_step (DeclKind-F.AttributeSpecification i ds c v s) =
     node4 form.AttributeSpecification (ident_tree i) (trees_of designator_tree ds.now) (keyword_tree c) (expr_tree v) s
 decl_kind_step (DeclKind-F.Use u) = use_tree u
 
-abbrev pub decl_tree : Decl → Tree
+unfoldable pub decl_tree : Decl → Tree
 decl_tree = fold-Decl Tree Tree decl_kind_step decl_step
 
-abbrev pub decl_kind_tree : DeclKind → Tree
+unfoldable pub decl_kind_tree : DeclKind → Tree
 decl_kind_tree = fold-DeclKind Tree Tree decl_kind_step decl_step

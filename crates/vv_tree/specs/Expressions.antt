@@ -57,26 +57,26 @@ range_step (Range-F.Bounds a d b s) = node3 form.Range a (direction_tree d) b s
 abbrev pub operand_step : Operand-F Tree Tree Tree Tree Tree Tree Tree Tree → Tree
 operand_step o = node2 form.Operand (operator_tree o.operator) o.operand o.span
 
-abbrev pub expr_tree : Expr → Tree
+unfoldable pub expr_tree : Expr → Tree
 expr_tree = fold-Expr Tree Tree Tree Tree Tree Tree Tree Tree argument_step choice_step element_step expr_kind_step part_step range_step expr_step operand_step
 
-abbrev pub expr_kind_tree : ExprKind → Tree
+unfoldable pub expr_kind_tree : ExprKind → Tree
 expr_kind_tree = fold-ExprKind Tree Tree Tree Tree Tree Tree Tree Tree argument_step choice_step element_step expr_kind_step part_step range_step expr_step operand_step
 
-abbrev pub part_tree : Part → Tree
+unfoldable pub part_tree : Part → Tree
 part_tree = fold-Part Tree Tree Tree Tree Tree Tree Tree Tree argument_step choice_step element_step expr_kind_step part_step range_step expr_step operand_step
 
-abbrev pub argument_tree : Argument → Tree
+unfoldable pub argument_tree : Argument → Tree
 argument_tree = fold-Argument Tree Tree Tree Tree Tree Tree Tree Tree argument_step choice_step element_step expr_kind_step part_step range_step expr_step operand_step
 
-abbrev pub element_tree : Element → Tree
+unfoldable pub element_tree : Element → Tree
 element_tree = fold-Element Tree Tree Tree Tree Tree Tree Tree Tree argument_step choice_step element_step expr_kind_step part_step range_step expr_step operand_step
 
-abbrev pub choice_tree : Choice → Tree
+unfoldable pub choice_tree : Choice → Tree
 choice_tree = fold-Choice Tree Tree Tree Tree Tree Tree Tree Tree argument_step choice_step element_step expr_kind_step part_step range_step expr_step operand_step
 
-abbrev pub range_tree : Range → Tree
+unfoldable pub range_tree : Range → Tree
 range_tree = fold-Range Tree Tree Tree Tree Tree Tree Tree Tree argument_step choice_step element_step expr_kind_step part_step range_step expr_step operand_step
 
-abbrev pub operand_tree : Operand → Tree
+unfoldable pub operand_tree : Operand → Tree
 operand_tree = fold-Operand Tree Tree Tree Tree Tree Tree Tree Tree argument_step choice_step element_step expr_kind_step part_step range_step expr_step operand_step

@@ -40,14 +40,14 @@ if_arm_step a = node2 form.IfArm (expr_tree a.condition) (list (trees a.statemen
 abbrev pub case_arm_step : CaseArm-F Tree Tree Tree Tree → Tree
 case_arm_step a = node2 form.CaseArm (trees_of choice_tree a.choices.now) (list (trees a.statements.now)) a.span
 
-abbrev pub stmt_tree : Stmt → Tree
+unfoldable pub stmt_tree : Stmt → Tree
 stmt_tree = fold-Stmt Tree Tree Tree Tree stmt_kind_step case_arm_step if_arm_step stmt_step
 
-abbrev pub stmt_kind_tree : StmtKind → Tree
+unfoldable pub stmt_kind_tree : StmtKind → Tree
 stmt_kind_tree = fold-StmtKind Tree Tree Tree Tree stmt_kind_step case_arm_step if_arm_step stmt_step
 
-abbrev pub if_arm_tree : IfArm → Tree
+unfoldable pub if_arm_tree : IfArm → Tree
 if_arm_tree = fold-IfArm Tree Tree Tree Tree stmt_kind_step case_arm_step if_arm_step stmt_step
 
-abbrev pub case_arm_tree : CaseArm → Tree
+unfoldable pub case_arm_tree : CaseArm → Tree
 case_arm_tree = fold-CaseArm Tree Tree Tree Tree stmt_kind_step case_arm_step if_arm_step stmt_step

@@ -125,6 +125,7 @@ pub enum ConcKind<'a> {
     },
 }
 
+#[tactic(auto, unfolding(crate::specs::Concurrents::conc_tree, crate::specs::Concurrents::conc_kind_tree))]
 impl<'a> Conc<'a> {
     /// What it is.
     pub fn kind(self) -> &'a ConcKind<'a>
@@ -134,6 +135,7 @@ impl<'a> Conc<'a> {
     }
 }
 
+#[tactic(auto, unfolding(crate::specs::Concurrents::conc_tree, crate::specs::Concurrents::conc_kind_tree))]
 impl<'a> ConcKind<'a> {
     /// It in the arena.
     pub fn keep(self, arena: &'a Bump<Global>) -> Result<Conc<'a>, Memory>

@@ -182,6 +182,7 @@ pub enum DeclKind<'a> {
     Use(UseClause<'a>),
 }
 
+#[tactic(auto, unfolding(crate::specs::Declarations::decl_tree, crate::specs::Declarations::decl_kind_tree))]
 impl<'a> Decl<'a> {
     /// What it is.
     pub fn kind(self) -> &'a DeclKind<'a>
@@ -191,6 +192,7 @@ impl<'a> Decl<'a> {
     }
 }
 
+#[tactic(auto, unfolding(crate::specs::Declarations::decl_tree, crate::specs::Declarations::decl_kind_tree))]
 impl<'a> DeclKind<'a> {
     /// It in the arena.
     pub fn keep(self, arena: &'a Bump<Global>) -> Result<Decl<'a>, Memory>

@@ -162,6 +162,7 @@ pub struct Operand<'a> {
     pub span: Span,
 }
 
+#[tactic(auto, unfolding(crate::specs::Expressions::expr_tree, crate::specs::Expressions::expr_kind_tree))]
 impl<'a> Expr<'a> {
     /// What it is.
     pub fn kind(self) -> &'a ExprKind<'a>
@@ -171,6 +172,7 @@ impl<'a> Expr<'a> {
     }
 }
 
+#[tactic(auto, unfolding(crate::specs::Expressions::expr_tree, crate::specs::Expressions::expr_kind_tree))]
 impl<'a> ExprKind<'a> {
     /// It in the arena.
     pub fn keep(self, arena: &'a Bump<Global>) -> Result<Expr<'a>, Memory>

@@ -117,6 +117,7 @@ pub struct CaseArm<'a> {
     pub span: Span,
 }
 
+#[tactic(auto, unfolding(crate::specs::Statements::stmt_tree, crate::specs::Statements::stmt_kind_tree))]
 impl<'a> Stmt<'a> {
     /// What it is.
     pub fn kind(self) -> &'a StmtKind<'a>
@@ -126,6 +127,7 @@ impl<'a> Stmt<'a> {
     }
 }
 
+#[tactic(auto, unfolding(crate::specs::Statements::stmt_tree, crate::specs::Statements::stmt_kind_tree))]
 impl<'a> StmtKind<'a> {
     /// It in the arena.
     pub fn keep(self, arena: &'a Bump<Global>) -> Result<Stmt<'a>, Memory>

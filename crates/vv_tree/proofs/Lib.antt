@@ -1,0 +1,4 @@
+pub mod Concurrents
+pub mod Declarations
+pub mod Expressions
+pub mod Statements
