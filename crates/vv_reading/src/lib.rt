@@ -1,0 +1,4 @@
+//! Reads tokens by the grammar of VHDL into nodes.
+#![tactic(auto)]
+
+pub mod reading;
