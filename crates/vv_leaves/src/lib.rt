@@ -1,0 +1,4 @@
+//! Parts of syntax trees that are one token.
+#![tactic(auto)]
+
+pub mod leaf;

@@ -1,0 +1,5 @@
+//! Reads expressions, names and aggregates.
+#![tactic(auto)]
+
+pub mod calls;
+pub mod expression;
