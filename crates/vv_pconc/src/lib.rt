@@ -1,0 +1,5 @@
+//! Concurrent statements of the nodes that stand for them.
+#![tactic(auto)]
+
+pub mod concurrent;
+pub mod instance;

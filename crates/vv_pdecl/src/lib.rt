@@ -1,0 +1,4 @@
+//! Declarations of the nodes that stand for them.
+#![tactic(auto)]
+
+pub mod declaration;

@@ -1,0 +1,4 @@
+//! Sequential statements of the nodes that stand for them.
+#![tactic(auto)]
+
+pub mod statement;
