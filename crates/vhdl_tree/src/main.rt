@@ -6,23 +6,20 @@
 #![tactic(auto)]
 
 mod print;
-mod tree;
 
 use crate::print::lines;
-use crate::tree::Tree;
+use bumpalo::Bump;
 use std::alloc::Global;
 use std::env;
 use std::io::Print;
 use std::process::ExitCode;
-use vv_base::fault::{Fault, Refusal, Rule, Span};
+use vv_base::fault::{Fault, Refusal};
 use vv_base::files::FileShelf;
 use vv_base::names::Names;
 use vv_base::shelf::{LoadFault, Shelf};
 use vv_grammar::edition::Edition;
-use vv_grammar::starts::FILE;
-use vv_grammar::terminal::terminals;
-use vv_machine::machine::{Stop, run};
-use vv_vlex::token::Token;
+use vv_pstmt::parse::parse;
+use vv_reading::reading::read_file;
 use vv_vlex::tokens::lex;
 
 /// What the words ask for.
@@ -96,32 +93,13 @@ fn told(rt: &HostRuntime, bytes: &[u8], refusal: Refusal) -> u8 {
 fn read(alloc: Global, bytes: &[u8], prints: bool) -> Result<String, Fault> {
     let mut names = Names::for_files(alloc, &[bytes]);
     let tokens = lex(alloc, 0, bytes, &mut names)?;
-    let kinds = terminals(alloc, tokens.as_slice())?;
-    match run(alloc, Edition::Vhdl93, &FILE, kinds.as_slice(), 0) {
-        Ok(reading) => {
-            if !prints {
-                return Ok(String::new(alloc));
-            }
-            let tree = Tree::build(alloc, reading.events.as_slice())?;
-            Ok(lines(alloc, &tree, tokens.as_slice(), bytes)?)
-        }
-        Err(Stop::Memory) => Err(Fault::Memory),
-        Err(Stop::Misplaced(token)) => Err(refused(Rule::Y1, tokens.as_slice(), token)),
-        Err(Stop::Deep(token)) => Err(refused(Rule::Y2, tokens.as_slice(), token)),
+    let arena = Bump::new(alloc);
+    if prints {
+        let tree = read_file(alloc, &arena, Edition::Vhdl93, tokens.as_slice())?;
+        return Ok(lines(alloc, tree, bytes)?);
     }
-}
-
-/// A refusal at a token.
-fn refused(rule: Rule, tokens: &[Token], token: usize) -> Fault {
-    let span = match tokens.get(token) {
-        Some(token) => token.span,
-        None => Span {
-            file: 0,
-            at: 0,
-            len: 0,
-        },
-    };
-    Fault::Refused(Refusal { rule, span })
+    parse(alloc, &arena, tokens.as_slice(), Edition::Vhdl93)?;
+    Ok(String::new(alloc))
 }
 
 /// The line and the column of an offset, both from 1 on.
