@@ -4,35 +4,32 @@
 #
 # usage: tools/outlives.sh
 #
-# Works on a copy. Ends with 1 where a change is not refused for that reason.
+# Works on a copy. What stands below a changed crate is proved first, unless `rt check` has kept it. Ends with 1 where a change is not refused for that
+# reason.
 set -u
 cd "$(dirname "$0")/.." || exit 1
 room=$(mktemp -d)
 trap 'rm -rf "$room"' EXIT
+cp -r crates crates.txt HANDLES "$room/"
 failed=0
 
 # try CRATE FILE OLD NEW
 try() {
-    rm -rf "$room/copy"
-    mkdir "$room/copy"
-    cp -r crates.txt HANDLES "$room/copy/"
-    mkdir "$room/copy/crates"
-    for crate in crates/*/; do
-        rsync -a --exclude out "$crate" "$room/copy/$crate" 2>/dev/null || cp -r "$crate" "$room/copy/crates/"
-    done
-    local file="$room/copy/crates/$1/src/$2"
+    local file="$room/crates/$1/src/$2"
     if ! grep -qF "$3" "$file"; then
         echo "$1/$2: the line to change is not there: $3"
         failed=1
         return
     fi
+    cp "$file" "$room/kept"
     OLD="$3" NEW="$4" perl -0pi -e 's/\Q$ENV{OLD}\E/$ENV{NEW}/' "$file"
-    if (cd "$room/copy/crates/$1" && rt check 2>&1) | grep -q 'borrow-e0515.*local variable'; then
+    if (cd "$room/crates/$1" && rt check 2>&1) | grep -q 'borrow-e0515.*local variable'; then
         echo "$1/$2: refused, as it must be"
     else
         echo "$1/$2: NOT REFUSED as a borrow of a local variable"
         failed=1
     fi
+    cp "$room/kept" "$file"
 }
 
 try vv_pexpr calls.rt 'expression::expr(arena, node)?' 'expression::expr(&nodes, node)?'
