@@ -15,9 +15,10 @@ use Rattle.vv_grammar.specs.declared.terminal.Terminal.{Terminal}
 use Rattle.vv_grammar.specs.Terminals.{same}
 use Rattle.vv_grammar.specs.Table.{otherwise, level_of}
 use Rattle.vv_machine.specs.Machine as machine
-use Rattle.vv_machine.specs.Machine.{Turn, turn, chosen, next_terminal, inside, starting, as_step, begun, steps_in, Leads, here, further}
+use Rattle.vv_machine.specs.Machine.{Turn, turn, chosen, next_terminal, inside, marked, as_step, begun, steps_in, Leads, here, further}
 use Rattle.vv_grammar_laws.specs.Derivations.{noted}
 use Rattle.vv_grammar_laws.specs.Starts.{AreBetween}
+use Rattle.vv_grammar_laws.proofs.Settled.{told}
 use Rattle.vv_grammar_laws.proofs.Plain as plain
 use Rattle.vv_grammar_laws.proofs.Plain.{Act, act_of, act, head, behind}
 use Rattle.vv_grammar_laws.proofs.Acts.{Acts, as_acts, HasHead, made, skipped, kept, chose, passed, stopped, again}
@@ -40,55 +41,53 @@ abbrev pub past : Bool → ℕ → ℕ
 past true at = at + 1
 past false at = at
 
--- what a move makes is what the step makes
-abbrev pub Agrees : machine.Move → Act → ℕ → Type 0
-Agrees (machine.goes es L c) x at = (b : Bool) × (x ≡ plain.goes es (bare L) b) × (c ≡ past b at)
-Agrees machine.stuck x at = x ≡ plain.stuck
-Agrees (machine.deep n) x at = Unit {0}
-Agrees machine.over x at = x ≡ plain.over
+-- what a step of the machine makes is what the step makes without levels
+abbrev pub Agrees : machine.Advance → Act → ℕ → Type 0
+Agrees (machine.advances es L c m) x at = (b : Bool) × (x ≡ plain.goes es (bare L) b) × (c ≡ past b at)
+Agrees machine.fails x at = x ≡ plain.stuck
+Agrees machine.ends x at = x ≡ plain.over
 
-taking-agrees : (k : Take) (at : ℕ) (ss : List Step) (o : Pending) (K : List Pending)
-    → Agrees (machine.taking k at ss o K) (plain.goes (noted k) (ss ++ bare K) (machine.takes k)) at
-taking-agrees take.Keep at ss o K = (true, ap (λ (x : List Step). plain.goes (event.Keep ∷ []) x true) (sym (bare-steps ss (begun o at) K)), refl)
-taking-agrees take.Skip at ss o K = (true, ap (λ (x : List Step). plain.goes (event.Skip ∷ []) x true) (sym (bare-steps ss (begun o at) K)), refl)
-taking-agrees take.Look at ss o K = (false, ap (λ (x : List Step). plain.goes [] x false) (sym (bare-steps ss o K)), refl)
+taking-agrees : (k : Take) (at : ℕ) (ss : List Step) (o : Pending) (K : List Pending) (m : Option ℕ)
+    → Agrees (machine.taking k at ss o K m) (plain.goes (noted k) (ss ++ bare K) (machine.takes k)) at
+taking-agrees take.Keep at ss o K m = (true, ap (λ (x : List Step). plain.goes (event.Keep ∷ []) x true) (sym (bare-steps ss (begun o at) K)), refl)
+taking-agrees take.Skip at ss o K m = (true, ap (λ (x : List Step). plain.goes (event.Skip ∷ []) x true) (sym (bare-steps ss (begun o at) K)), refl)
+taking-agrees take.Look at ss o K m = (false, ap (λ (x : List Step). plain.goes [] x false) (sym (bare-steps ss o K)), refl)
 
-entering-agrees : (o : Option Pending) (start : ℕ) (r : Turn) (at : ℕ) (K : List Pending) → Agrees (machine.entering o start r at K) (plain.turned r (bare K)) at
-entering-agrees None start r at K = tt
-entering-agrees (Some o) start r at K = taking-agrees r.take at r.steps o K
+turning-agrees : (p : Place) (r : Turn) (o : Pending) (at : ℕ) (K : List Pending) (m : Option ℕ) → Agrees (machine.turning p r o at K m) (plain.turned r (bare K)) at
+turning-agrees p r o at K m = taking-agrees r.take at r.steps (inside (level_of p) o) K (marked (level_of p) o at m)
 
-called-agrees : (r : Option Turn) (other : Option (List Step)) (p : Place) (o : Pending) (at : ℕ) (K : List Pending)
-    → Agrees (machine.called r other p o at K) (plain.called r other (bare K)) at
-called-agrees (Some r) other p o at K = entering-agrees (inside (level_of p) o) (starting (level_of p) o at) r at K
-called-agrees None (Some ss) p o at K = (false, ap (λ (x : List Step). plain.goes [] x false) (sym (bare-steps ss o K)), refl)
-called-agrees None None p o at K = refl
+called-agrees : (r : Option Turn) (other : Option (List Step)) (p : Place) (o : Pending) (at : ℕ) (K : List Pending) (m : Option ℕ)
+    → Agrees (machine.called r other p o at K m) (plain.called r other (bare K)) at
+called-agrees (Some r) other p o at K m = turning-agrees p r o at K m
+called-agrees None (Some ss) p o at K m = (false, ap (λ (x : List Step). plain.goes [] x false) (sym (bare-steps ss o K)), refl)
+called-agrees None None p o at K m = refl
 
-repeated-agrees : (r : Option Turn) (p : Place) (o : Pending) (at : ℕ) (K : List Pending) → o.step ≡ step.Many p
-    → Agrees (machine.repeated r p o at K) (plain.repeated r p (bare K)) at
-repeated-agrees None p o at K h = (false, refl, refl)
-repeated-agrees (Some r) p o at K h =
-    subst (λ (x : Step). Agrees (machine.turning p r o at (as_step o (step.Make form.Add) ∷ o ∷ K)) (plain.turned r (step.Make form.Add ∷ x ∷ bare K)) at) h
-    (entering-agrees (inside (level_of p) o) (starting (level_of p) o at) r at (as_step o (step.Make form.Add) ∷ o ∷ K))
+repeated-agrees : (r : Option Turn) (p : Place) (o : Pending) (at : ℕ) (K : List Pending) (m : Option ℕ) → o.step ≡ step.Many p
+    → Agrees (machine.repeated r p o at K m) (plain.repeated r p (bare K)) at
+repeated-agrees None p o at K m h = (false, refl, refl)
+repeated-agrees (Some r) p o at K m h =
+    subst (λ (x : Step). Agrees (machine.turning p r o at (as_step o (step.Make form.Add) ∷ o ∷ K) m) (plain.turned r (step.Make form.Add ∷ x ∷ bare K)) at) h
+    (turning-agrees p r o at (as_step o (step.Make form.Add) ∷ o ∷ K) m)
 
-token-agrees : (f : Event) (w : Terminal) (t : Option Terminal) (at : ℕ) (K : List Pending) → Agrees (machine.token f w t at K) (plain.token f w t (bare K)) at
-token-agrees f w None at K = refl
-token-agrees f w (Some t) at K = go (same w t)
+token-agrees : (f : Event) (w : Terminal) (t : Option Terminal) (at : ℕ) (K : List Pending) (m : Option ℕ) → Agrees (machine.token f w t at K m) (plain.token f w t (bare K)) at
+token-agrees f w None at K m = refl
+token-agrees f w (Some t) at K m = go (same w t)
   where
-    go : (b : Bool) → Agrees (if b then machine.goes (f ∷ []) K (at + 1) else machine.stuck) (if b then plain.goes (f ∷ []) (bare K) true else plain.stuck) at
+    go : (b : Bool) → Agrees (if b then machine.advances (f ∷ []) K (at + 1) m else machine.fails) (if b then plain.goes (f ∷ []) (bare K) true else plain.stuck) at
     go true = (true, refl, refl)
     go false = refl
 
-step-agrees : (e : Edition) (t : Option Terminal) (s : Step) (o : Pending) (at : ℕ) (K : List Pending) → o.step ≡ s
-    → Agrees (machine.move_of e t s o at K) (act_of e s t (bare K)) at
-step-agrees e t (step.Call p) o at K h = called-agrees (chosen e p t) (otherwise p) p o at K
-step-agrees e t (step.Many p) o at K h = repeated-agrees (machine.as_part (chosen e p t)) p o at K h
-step-agrees e t (step.Skip w) o at K h = token-agrees event.Skip w t at K
-step-agrees e t (step.Keep w) o at K h = token-agrees event.Keep w t at K
-step-agrees e t (step.Make f) o at K h = (false, refl, refl)
+step-agrees : (e : Edition) (t : Option Terminal) (s : Step) (o : Pending) (at : ℕ) (K : List Pending) (m : Option ℕ) → o.step ≡ s
+    → Agrees (machine.advance_of e t s o at K m) (act_of e s t (bare K)) at
+step-agrees e t (step.Call p) o at K m h = called-agrees (chosen e p t) (otherwise p) p o at K m
+step-agrees e t (step.Many p) o at K m h = repeated-agrees (machine.as_part (chosen e p t)) p o at K m h
+step-agrees e t (step.Skip w) o at K m h = token-agrees event.Skip w t at K m
+step-agrees e t (step.Keep w) o at K m h = token-agrees event.Keep w t at K m
+step-agrees e t (step.Make f) o at K m h = (false, refl, refl)
 
-pub agrees : (e : Edition) (ts : List Terminal) (K : List Pending) (at : ℕ) → Agrees (machine.move e ts K at) (act e (bare K) (next_terminal ts at)) at
-agrees e ts [] at = refl
-agrees e ts (o ∷ K) at = step-agrees e (next_terminal ts at) o.step o at K refl
+pub agrees : (e : Edition) (ts : List Terminal) (K : List Pending) (at : ℕ) (m : Option ℕ) → Agrees (machine.advance e ts K at m) (act e (bare K) (next_terminal ts at)) at
+agrees e ts [] at m = refl
+agrees e ts (o ∷ K) at m = step-agrees e (next_terminal ts at) o.step o at K m refl
 
 head-drop : (xs : List Terminal) (a : ℕ) → head (drop a xs) ≡ slice_get xs a
 head-drop [] zero = refl
@@ -109,7 +108,7 @@ abbrev pub IsTrueOf : Bool → Type 0
 IsTrueOf true = Unit {0}
 IsTrueOf false = ⊥
 
-needs-head : (e : Edition) (K L : List Step) (h : Option Terminal) (es : List Event) (b : Bool) → Acts e K h es L b → IsTrueOf b → HasHead h
+pub needs-head : (e : Edition) (K L : List Step) (h : Option Terminal) (es : List Event) (b : Bool) → Acts e K h es L b → IsTrueOf b → HasHead h
 needs-head e _ _ _ _ _ (made f K h) x = absurd x
 needs-head e _ _ _ _ _ (skipped w t K y) x = tt
 needs-head e _ _ _ _ _ (kept w t K y) x = tt
@@ -148,15 +147,16 @@ onward e ts K L M a b c es fs w true m s = go (drop b ts) refl
           path = subst (λ (x : List Terminal). Path e (bare M) x (bare K) (w.tokens ++ (t ∷ [])) (es ++ fs)) r p;
         }
 
-moved : (e : Edition) (ts : List Terminal) (K L M : List Pending) (a b c : ℕ) (es fs : List Event) (w : IsWay e ts K a es L b)
-    → machine.move e ts L b ≡ machine.goes fs M c → IsWay e ts K a (es ++ fs) M c
-moved e ts K L M a b c es fs w m =
-    let g : Agrees (machine.goes fs M c) (act e (bare L) (next_terminal ts b)) b = subst (λ (x : machine.Move). Agrees x (act e (bare L) (next_terminal ts b)) b) m (agrees e ts L b) in
+moved : (e : Edition) (ts : List Terminal) (K L M : List Pending) (a b c : ℕ) (m n : Option ℕ) (es fs : List Event) (w : IsWay e ts K a es L b)
+    → machine.move e ts L b m ≡ machine.goes fs M c n → IsWay e ts K a (es ++ fs) M c
+moved e ts K L M a b c m n es fs w h =
+    let x = told b m (machine.advance e ts L b m) (machine.goes fs M c n) h in
+    let g : Agrees (machine.advances fs M c n) (act e (bare L) (next_terminal ts b)) b = subst (λ (z : machine.Advance). Agrees z (act e (bare L) (next_terminal ts b)) b) x.0 (agrees e ts L b m) in
     onward e ts K L M a b c es fs w g.0 g.1 g.2
 
-pub way : (e : Edition) (ts : List Terminal) (K : List Pending) (a : ℕ) (es : List Event) (L : List Pending) (b : ℕ) → Leads e ts K a es L b → IsWay e ts K a es L b
-way e _ _ _ _ _ _ (here _ ts K at) = record { tokens = []; between = record { split = refl; size = omega arith }; path = path.here }
-way e _ _ _ _ _ _ (further _ ts K L M a b c es fs l m) = moved e ts K L M a b c es fs (way e ts K a es L b l) m
+pub way : (e : Edition) (ts : List Terminal) (K : List Pending) (a : ℕ) (es : List Event) (L : List Pending) (b : ℕ) (m : Option ℕ) → Leads e ts K a es L b m → IsWay e ts K a es L b
+way e _ _ _ _ _ _ _ (here _ ts K at) = record { tokens = []; between = record { split = refl; size = omega arith }; path = path.here }
+way e _ _ _ _ _ _ _ (further _ ts K L M a b c m n es fs l h) = moved e ts K L M a b c m n es fs (way e ts K a es L b m l) h
 
 drop-nil : (i : ℕ) → drop i (let xs : List Terminal = [] in xs) ≡ []
 drop-nil zero = refl

@@ -1,5 +1,5 @@
 -- Places that tell late where something began stand only before what is taken next.
-use Rattle.std.proofs.Common.{◌≡◌, ◌⊎◌, inl, inr, ℕ, ◌+◌, Bool, true, false, not, ◌&&◌, if◌then◌else◌, List, [], ◌∷◌, ◌++◌, Option, Some, None, refl, sym, ap, ◌∙◌, subst}
+use Rattle.std.proofs.Common.{◌≡◌, ◌⊎◌, inl, inr, ℕ, ◌+◌, Bool, true, false, not, ◌&&◌, if◌then◌else◌, List, [], ◌∷◌, ◌++◌, Option, Some, None, refl, sym, ap, ◌∙◌, subst, arith}
 use Rattle.std.proofs.lemmas.Bool.{and_parts}
 use Rattle.vv_grammar.specs.declared.edition.Edition.{Edition}
 use Rattle.vv_grammar.specs.declared.edition.Edition.TheVariants as edition
@@ -19,8 +19,9 @@ use Rattle.vv_grammar.specs.declared.terminal.Terminal.{Terminal}
 use Rattle.vv_grammar.specs.Terminals.{same}
 use Rattle.vv_grammar.specs.Table.{Choice, alternatives, otherwise, level_of}
 use Rattle.vv_machine.specs.Machine as machine
-use Rattle.vv_machine.specs.Machine.{Turn, takes, as_part, turn, choose, chosen, next_terminal, inside, starting, as_step, begun, steps_in, Leads, here, further}
+use Rattle.vv_machine.specs.Machine.{Turn, takes, as_part, turn, choose, chosen, next_terminal, inside, marked, as_step, begun, steps_in, Leads, here, further}
 use Rattle.vv_grammar_laws.specs.Derivations.{IsAmong, first, later}
+use Rattle.vv_grammar_laws.proofs.Settled.{StaysAt, told}
 use Rattle.vv_grammar_laws.proofs.Acts.{Chosen, chosen-turn}
 
 -- whether something began at a token that was read before
@@ -105,21 +106,19 @@ edge-steps (step.Skip w ∷ ss) o K h k = (tt, calm-steps ss o K h k)
 edge-steps (step.Keep w ∷ ss) o K h k = (tt, calm-steps ss o K h k)
 edge-steps (step.Make f ∷ ss) o K h k = (tt, calm-steps ss o K h k)
 
--- after a move all is calm, or no token was taken and all but the first step is
-abbrev pub Calms : ℕ → machine.Move → Type 0
-Calms at (machine.goes fs M c) = ((c ≡ at + 1) × Calm M) ⊎ ((c ≡ at) × CalmBehind M)
-Calms at machine.stuck = Unit {0}
-Calms at (machine.deep n) = Unit {0}
-Calms at machine.over = Unit {0}
+-- after a step all is calm, or no token was taken and all but the first step is
+abbrev pub Calms : ℕ → machine.Advance → Type 0
+Calms at (machine.advances fs M c m) = ((c ≡ at + 1) × Calm M) ⊎ ((c ≡ at) × CalmBehind M)
+Calms at machine.fails = Unit {0}
+Calms at machine.ends = Unit {0}
 
-taking-calms : (k : Take) (ss : List Step) (o : Pending) (at : ℕ) (K : List Pending) → calm_choice k ss ≡ true → Calm K → Calms at (machine.taking k at ss o K)
-taking-calms take.Keep ss o at K h k = inl (refl, calm-steps ss (begun o at) K h k)
-taking-calms take.Skip ss o at K h k = inl (refl, calm-steps ss (begun o at) K h k)
-taking-calms take.Look ss o at K h k = inr (refl, edge-steps ss o K h k)
+taking-calms : (k : Take) (ss : List Step) (o : Pending) (at : ℕ) (K : List Pending) (m : Option ℕ) → calm_choice k ss ≡ true → Calm K → Calms at (machine.taking k at ss o K m)
+taking-calms take.Keep ss o at K m h k = inl (refl, calm-steps ss (begun o at) K h k)
+taking-calms take.Skip ss o at K m h k = inl (refl, calm-steps ss (begun o at) K h k)
+taking-calms take.Look ss o at K m h k = inr (refl, edge-steps ss o K h k)
 
-entering-calms : (i : Option Pending) (from : ℕ) (r : Turn) (at : ℕ) (K : List Pending) → calm_choice r.take r.steps ≡ true → Calm K → Calms at (machine.entering i from r at K)
-entering-calms None from r at K h k = tt
-entering-calms (Some o) from r at K h k = taking-calms r.take r.steps o at K h k
+turning-calms : (p : Place) (r : Turn) (o : Pending) (at : ℕ) (K : List Pending) (m : Option ℕ) → calm_choice r.take r.steps ≡ true → Calm K → Calms at (machine.turning p r o at K m)
+turning-calms p r o at K m h k = taking-calms r.take r.steps (inside (level_of p) o) at K (marked (level_of p) o at m) h k
 
 among-calm : (c : Choice) (cs : List Choice) → IsAmong c cs → calm_choices cs ≡ true → calm_choice c.take c.steps ≡ true
 among-calm c [] a h = elim a [ ]
@@ -147,55 +146,65 @@ part-calm (Some r) h = go (takes r.take)
     go false = tt
     go true = h
 
-called-calms : (r : Option Turn) (z : Option (List Step)) (p : Place) (o : Pending) (at : ℕ) (K : List Pending) → Turns r → calm_else z ≡ true → Calm K → Calms at (machine.called r z p o at K)
-called-calms (Some r) z p o at K t h k = entering-calms (inside (level_of p) o) (starting (level_of p) o at) r at K t k
-called-calms None (Some ss) p o at K t h k = inr (refl, edge-steps ss o K h k)
-called-calms None None p o at K t h k = tt
+called-calms : (r : Option Turn) (z : Option (List Step)) (p : Place) (o : Pending) (at : ℕ) (K : List Pending) (m : Option ℕ) → Turns r → calm_else z ≡ true → Calm K → Calms at (machine.called r z p o at K m)
+called-calms (Some r) z p o at K m t h k = turning-calms p r o at K m t k
+called-calms None (Some ss) p o at K m t h k = inr (refl, edge-steps ss o K h k)
+called-calms None None p o at K m t h k = tt
 
-repeated-calms : (r : Option Turn) (p : Place) (o : Pending) (at : ℕ) (K : List Pending) → Turns r → is_calm o.step ≡ true → Calm K → Calms at (machine.repeated r p o at K)
-repeated-calms None p o at K t h k = inr (refl, calm-behind K k)
-repeated-calms (Some r) p o at K t h k =
-    entering-calms (inside (level_of p) o) (starting (level_of p) o at) r at (as_step o (step.Make form.Add) ∷ (o ∷ K)) t (refl, (h, k))
+repeated-calms : (r : Option Turn) (p : Place) (o : Pending) (at : ℕ) (K : List Pending) (m : Option ℕ) → Turns r → is_calm o.step ≡ true → Calm K → Calms at (machine.repeated r p o at K m)
+repeated-calms None p o at K m t h k = inr (refl, calm-behind K k)
+repeated-calms (Some r) p o at K m t h k = turning-calms p r o at (as_step o (step.Make form.Add) ∷ (o ∷ K)) m t (refl, (h, k))
 
-token-calms : (f : Event) (w : Terminal) (t : Option Terminal) (at : ℕ) (K : List Pending) → Calm K → Calms at (machine.token f w t at K)
-token-calms f w None at K k = tt
-token-calms f w (Some t) at K k = go (same w t)
+token-calms : (f : Event) (w : Terminal) (t : Option Terminal) (at : ℕ) (K : List Pending) (m : Option ℕ) → Calm K → Calms at (machine.token f w t at K m)
+token-calms f w None at K m k = tt
+token-calms f w (Some t) at K m k = go (same w t)
   where
-    go : (b : Bool) → Calms at (if b then machine.goes (f ∷ []) K (at + 1) else machine.stuck)
+    go : (b : Bool) → Calms at (if b then machine.advances (f ∷ []) K (at + 1) m else machine.fails)
     go true = inl (refl, k)
     go false = tt
 
-step-calms : (e : Edition) (t : Option Terminal) (s : Step) (o : Pending) (at : ℕ) (K : List Pending) → o.step ≡ s → IsEdge s → Calm K → Calms at (machine.move_of e t s o at K)
-step-calms e t (step.Call p) o at K h i k = called-calms (chosen e p t) (otherwise p) p o at K (turn-calm e p t) (and_parts (calm_choices (alternatives e p)) (calm_else (otherwise p)) (calm-place e p)).1 k
-step-calms e t (step.Many p) o at K h i k = repeated-calms (as_part (chosen e p t)) p o at K (part-calm (chosen e p t) (turn-calm e p t)) (ap is_calm h ∙ i) k
-step-calms e t (step.Skip w) o at K h i k = token-calms event.Skip w t at K k
-step-calms e t (step.Keep w) o at K h i k = token-calms event.Keep w t at K k
-step-calms e t (step.Make f) o at K h i k = inr (refl, calm-behind K k)
+step-calms : (e : Edition) (t : Option Terminal) (s : Step) (o : Pending) (at : ℕ) (K : List Pending) (m : Option ℕ) → o.step ≡ s → IsEdge s → Calm K → Calms at (machine.advance_of e t s o at K m)
+step-calms e t (step.Call p) o at K m h i k = called-calms (chosen e p t) (otherwise p) p o at K m (turn-calm e p t) (and_parts (calm_choices (alternatives e p)) (calm_else (otherwise p)) (calm-place e p)).1 k
+step-calms e t (step.Many p) o at K m h i k = repeated-calms (as_part (chosen e p t)) p o at K m (part-calm (chosen e p t) (turn-calm e p t)) (ap is_calm h ∙ i) k
+step-calms e t (step.Skip w) o at K m h i k = token-calms event.Skip w t at K m k
+step-calms e t (step.Keep w) o at K m h i k = token-calms event.Keep w t at K m k
+step-calms e t (step.Make f) o at K m h i k = inr (refl, calm-behind K k)
 
-calms : (e : Edition) (ts : List Terminal) (L : List Pending) (at : ℕ) → CalmBehind L → Calms at (machine.move e ts L at)
-calms e ts [] at h = tt
-calms e ts (o ∷ K) at h = step-calms e (next_terminal ts at) o.step o at K refl h.0 h.1
+pub calms : (e : Edition) (ts : List Terminal) (L : List Pending) (at : ℕ) (m : Option ℕ) → CalmBehind L → Calms at (machine.advance e ts L at m)
+calms e ts [] at m h = tt
+calms e ts (o ∷ K) at m h = step-calms e (next_terminal ts at) o.step o at K m refl h.0 h.1
 
--- How the machine came to a state: at its token it began, or it took the one before. All was calm then, and since then no token was taken.
-pub data Arrival (e : Edition) (ts : List Terminal) (K : List Pending) (a : ℕ) (Z : List Pending) : ℕ → Type 0 where
-  at_start : (rs : List Event) → Calm K → Leads e ts K a rs Z a → Arrival e ts K a Z a
-  by_token : (es fs rs : List Event) (L M : List Pending) (b : ℕ) → Leads e ts K a es L b → machine.move e ts L b ≡ machine.goes fs M (b + 1) → Calm M
-      → Leads e ts M (b + 1) rs Z (b + 1) → Arrival e ts K a Z (b + 1)
+-- How the machine came to a state: at its token it began, or it took the one before, with no mark. All was calm then, and since then no token was taken.
+pub data Arrival (e : Edition) (ts : List Terminal) (K : List Pending) (a : ℕ) (Z : List Pending) : ℕ → Option ℕ → Type 0 where
+  at_start : (rs : List Event) (k : Option ℕ) → Calm K → Leads e ts K a rs Z a k → Arrival e ts K a Z a k
+  by_token : (es fs rs : List Event) (L M : List Pending) (b : ℕ) (m k : Option ℕ) → Leads e ts K a es L b m → machine.move e ts L b m ≡ machine.goes fs M (b + 1) None → Calm M
+      → Leads e ts M (b + 1) rs Z (b + 1) k → Arrival e ts K a Z (b + 1) k
 
-on-from : (e : Edition) (ts : List Terminal) (K : List Pending) (a : ℕ) (L M : List Pending) (b : ℕ) (fs : List Event) → machine.move e ts L b ≡ machine.goes fs M b
-    → Arrival e ts K a L b → Arrival e ts K a M b
-on-from e ts K a L M _ fs m (at_start rs c l) = at_start (rs ++ fs) c (further e ts K L M a a a rs fs l m)
-on-from e ts K a L M _ fs m (by_token es gs rs O P b k n c l) = by_token es gs (rs ++ fs) O P b k n c (further e ts P L M (b + 1) (b + 1) (b + 1) rs fs l m)
+on-from : (e : Edition) (ts : List Terminal) (K : List Pending) (a : ℕ) (L M : List Pending) (b : ℕ) (m n : Option ℕ) (fs : List Event) → machine.move e ts L b m ≡ machine.goes fs M b n
+    → Arrival e ts K a L b m → Arrival e ts K a M b n
+on-from e ts K a L M _ _ n fs h (at_start rs k c l) = at_start (rs ++ fs) n c (further e ts K L M a a a k n rs fs l h)
+on-from e ts K a L M _ _ n fs h (by_token es gs rs O P b q k j i c l) =
+    by_token es gs (rs ++ fs) O P b q n j i c (further e ts P L M (b + 1) (b + 1) (b + 1) k n rs fs l h)
 
-pub arrival : (e : Edition) (ts : List Terminal) (K : List Pending) (a : ℕ) (es : List Event) (L : List Pending) (b : ℕ) → Leads e ts K a es L b → Calm K
-    → Arrival e ts K a L b × CalmBehind L
-arrival e _ _ _ _ _ _ (here _ ts K at) k = (at_start [] k (here e ts K at), calm-behind K k)
-arrival e _ _ _ _ _ _ (further _ ts K L M a b c es fs l m) k =
-    let r = arrival e ts K a es L b l k in
-    elim (subst (Calms b) m (calms e ts L b r.1)) [
+no-mark : (b : ℕ) (n : Option ℕ) → StaysAt b (b + 1) n → n ≡ None
+no-mark b None h = refl
+no-mark b (Some x) h = absurd (let s : b + 1 ≡ b = h in omega (arith, s))
+
+pub arrival : (e : Edition) (ts : List Terminal) (K : List Pending) (a : ℕ) (es : List Event) (L : List Pending) (b : ℕ) (m : Option ℕ) → Leads e ts K a es L b m → Calm K
+    → Arrival e ts K a L b m × CalmBehind L
+arrival e _ _ _ _ _ _ _ (here _ ts K at) k = (at_start [] None k (here e ts K at), calm-behind K k)
+arrival e _ _ _ _ _ _ _ (further _ ts K L M a b c m n es fs l h) k =
+    let r = arrival e ts K a es L b m l k in
+    let x = told b m (machine.advance e ts L b m) (machine.goes fs M c n) h in
+    elim (subst (Calms b) x.0 (calms e ts L b m r.1)) [
       | inl all ↦ (
-        subst (Arrival e ts K a M) (sym all.0) (by_token es fs [] L M b l (m ∙ ap (λ (n : ℕ). machine.goes fs M n) all.0) all.1 (here e ts M (b + 1))),
+        let none : n ≡ None = no-mark b n (subst (λ (z : ℕ). StaysAt b z n) all.0 x.1) in
+            subst (λ (z : ℕ). Arrival e ts K a M z n) (sym all.0) (subst (Arrival e ts K a M (b + 1)) (sym none)
+            (by_token es fs [] L M b m None l (h ∙ ap (λ (z : ℕ). machine.goes fs M z n) all.0 ∙ ap (machine.goes fs M (b + 1)) none) all.1 (here e ts M (b + 1)))),
         calm-behind M all.1,
       )
-      | inr same ↦ (subst (Arrival e ts K a M) (sym same.0) (on-from e ts K a L M b fs (m ∙ ap (λ (n : ℕ). machine.goes fs M n) same.0) r.0), same.1)
+      | inr same ↦ (
+        subst (λ (z : ℕ). Arrival e ts K a M z n) (sym same.0) (on-from e ts K a L M b m n fs (h ∙ ap (λ (z : ℕ). machine.goes fs M z n) same.0) r.0),
+        same.1,
+      )
     ]

@@ -8,6 +8,8 @@ pub mod Readings
 pub mod Acts
 pub mod Seals
 pub mod Paths
+pub mod Settled
+pub mod Marks
 pub mod Bridge
 pub mod Calm
 pub mod Words
@@ -16,7 +18,10 @@ pub mod Ways
 pub mod Back
 pub mod States
 pub mod Free
+pub mod Over
+pub mod Empties
 pub mod Ends
 pub mod Complete
 pub mod Deep
+pub mod Verdicts
 pub mod Driven

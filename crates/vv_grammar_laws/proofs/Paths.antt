@@ -44,7 +44,7 @@ pub record Onward (e : Edition) (M : List Step) (v : List Terminal) : Type 0 whe
   pub events : List Event
   pub runs : Runs e M v events
 
-step-on : (e : Edition) (K L : List Step) (u : List Terminal) (es fs : List Event) (b : Bool) → act e K (head u) ≡ goes es L b → Runs e K u fs → Onward e L (behind b u)
+pub step-on : (e : Edition) (K L : List Step) (u : List Terminal) (es fs : List Event) (b : Bool) → act e K (head u) ≡ goes es L b → Runs e K u fs → Onward e L (behind b u)
 step-on e K L u es fs b m r = elim (continued e K u fs (subst Goes (sym m) tt) r) [
   | continues ds d q ↦ record { events = ds; runs = subst (λ (x : Act). Runs e (steps_of x) (behind (took x) u) ds) m q }
 ]

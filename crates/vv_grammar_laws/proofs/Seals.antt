@@ -33,6 +33,10 @@ is_closed place.MoreArguments = true
 is_closed place.Association = true
 is_closed place.AssociationBehindIdent = true
 is_closed place.MoreAssociations = true
+is_closed place.Element = true
+is_closed place.BehindElement = true
+is_closed place.MoreElements = true
+is_closed place.GenerateDeclarations = true
 is_closed _ = false
 
 -- closed places stand before something; what stands last may be closed only where its place is
@@ -139,7 +143,7 @@ abbrev pub IsEmpty : List Terminal → Type 0
 IsEmpty [] = Unit {0}
 IsEmpty (t ∷ u) = ⊥
 
-implied : (a b : Bool) → (not a || b) ≡ true → a ≡ true → b ≡ true
+pub implied : (a b : Bool) → (not a || b) ≡ true → a ≡ true → b ≡ true
 implied true b h e = h
 implied false b h e = absurd (false≢true e)
 
@@ -161,15 +165,20 @@ takes-looks take.Keep h = absurd (true≢false h)
 takes-looks take.Skip h = absurd (true≢false h)
 takes-looks take.Look h = refl
 
+-- Where a token is only looked at, it does not end what is to come.
+pub look-closed : (e : Edition) (p : Place) (k : Choice) → IsAmong k (alternatives e p) → takes k.take ≡ false → (K : List Step) → Closed (step.Call p ∷ K)
+    → (fs : List Event) → Derives e (k.steps ++ K) [] fs → ⊥
+look-closed e p k a s K c fs d =
+    let n = nulls-parts k.steps K (nulled e (k.steps ++ K) [] fs d tt) in
+    c.0 (implied (looks k.take && nulls k.steps) (is_closed p) (choice-seals e p k a).0 (and_from (looks k.take) (nulls k.steps) (takes-looks k.take s) n.0)) n.1
+
 -- A derivation of no tokens goes back over a step that took none, whatever the next token was.
 pub back-end : (e : Edition) (K L : List Step) (h : Option Terminal) (es fs : List Event) (b : Bool)
     → Acts e K h es L b → b ≡ false → Closed K → Derives e L [] fs → Derives e K [] (es ++ fs)
 back-end e _ _ _ _ fs _ (made f K h) s c d = make f K [] fs d
 back-end e _ _ _ _ fs _ (skipped w t K y) s c d = absurd (true≢false s)
 back-end e _ _ _ _ fs _ (kept w t K y) s c d = absurd (true≢false s)
-back-end e _ _ _ _ fs _ (chose p k t K a y) s c d =
-    let n = nulls-parts k.steps K (nulled e (k.steps ++ K) [] fs d tt) in
-    absurd (c.0 (implied (looks k.take && nulls k.steps) (is_closed p) (choice-seals e p k a).0 (and_from (looks k.take) (nulls k.steps) (takes-looks k.take s) n.0)) n.1)
+back-end e _ _ _ _ fs _ (chose p k t K a y) s c d = absurd (look-closed e p k a s K c fs d)
 back-end e _ _ _ _ fs _ (passed p ss K h o n) s c d = pass p ss K [] fs o d
 back-end e _ _ _ _ fs _ (stopped p K h) s c d = stop p K [] fs d
 back-end e _ _ _ _ fs _ (again p k t K a y x) s c d = absurd (true≢false (sym x ∙ s))

@@ -15,13 +15,13 @@ use Rattle.vv_grammar.specs.declared.terminal.Terminal.{Terminal}
 use Rattle.vv_grammar.specs.declared.terminal.Terminal.TheVariants as the
 use Rattle.vv_grammar.specs.Terminals.{same, contains}
 use Rattle.vv_grammar.specs.Table.{Choice, alternatives, otherwise, level_of}
-use Rattle.vv_machine.specs.Machine.{steps_in}
+use Rattle.vv_machine.specs.Machine.{inside, steps_in}
 use Rattle.vv_grammar.specs.declared.form.Form.{Form}
 use Rattle.vv_machine.specs.declared.stack.Pending.{Pending}
 use Rattle.vv_grammar.specs.declared.step.Level.{Level}
 use Rattle.vv_grammar.specs.declared.step.Level.TheVariants as level
 use Rattle.vv_grammar_laws.specs.Derivations.{IsAmong, first as here, later, left, noted, Derives, done, make, skip, keep, call, pass, stop}
-use Rattle.vv_grammar_laws.specs.Depths.{Opening, opening, entered, behind_choice, next_at, openings}
+use Rattle.vv_grammar_laws.specs.Depths.{Opening, opening, behind_choice, next_at, openings}
 use Rattle.vv_grammar_laws.proofs.Calm.{is_behind, is_calm, Calm}
 use Rattle.vv_grammar_laws.proofs.Bridge.{bare}
 use denote.Enum.Declared.{tag_of}
@@ -233,7 +233,7 @@ then-call e p c t K u l a h i = record { events = noted c.take ++ i.events; deri
     starts : StartsIn e (step.Call p ∷ K) (t ∷ u) (noted c.take ++ i.events) (call p c t K u i.events a h i.derives)
     starts [] at = tt
     starts (o ∷ F) at =
-        let G = steps_in c.steps (behind_choice c.take (entered (level_of p) o) at) ++ F in
+        let G = steps_in c.steps (behind_choice c.take (inside (level_of p) o) at) ++ F in
         let os = openings e (c.steps ++ K) (left c.take t u) i.events i.derives G (next_at c.take at) in
         from-append at (opening (level_of p) o at) os (from-opening (level_of p) o at l) (from-later at (next_at c.take at) os (by-next c.take at) (i.starts G (next_at c.take at)))
 

@@ -12,7 +12,7 @@ use Rattle.vv_grammar.specs.declared.step.Take.{Take}
 use Rattle.vv_grammar.specs.declared.step.Take.TheVariants as take
 use Rattle.vv_grammar.specs.declared.terminal.Terminal.{Terminal}
 use Rattle.vv_grammar.specs.Table.{level_of}
-use Rattle.vv_machine.specs.Machine.{with_expressions, with_statements, as_step, begun, steps_in, levels}
+use Rattle.vv_machine.specs.Machine.{inside, as_step, begun, steps_in, levels}
 use Rattle.vv_grammar_laws.specs.Derivations.{Derives, done, make, skip, keep, call, pass, stop, more}
 
 -- An expression or a statement that starts at the token of this number. Its depth counts those of its kind round it, and itself.
@@ -20,21 +20,13 @@ pub record Opening : Type 0 where
   pub at : ℕ
   pub depth : ℕ
 
--- What starts at a place. In `o` stands how many expressions and statements are round it.
+-- What starts at a place. In `o` stands how many expressions and statements are round it, counted up to the first that is too deep.
 abbrev pub opening : Level → Pending → ℕ → List Opening
 opening level.Same o at = []
 opening level.Expression o at = record { at = at; depth = o.expressions + 1 } ∷ []
 opening level.ExpressionBehind o at = record { at = o.began; depth = o.expressions + 1 } ∷ []
 opening level.Statement o at = record { at = at; depth = o.statements + 1 } ∷ []
 opening level.StatementBehind o at = record { at = o.began; depth = o.statements + 1 } ∷ []
-
--- what is round the steps inside
-abbrev pub entered : Level → Pending → Pending
-entered level.Same o = o
-entered level.Expression o = with_expressions o (o.expressions + 1)
-entered level.ExpressionBehind o = with_expressions o (o.expressions + 1)
-entered level.Statement o = with_statements o (o.statements + 1)
-entered level.StatementBehind o = with_statements o (o.statements + 1)
 
 -- behind a token that was taken a production begins at it
 abbrev pub behind_choice : Take → Pending → ℕ → Pending
@@ -58,7 +50,7 @@ openings e _ _ _ (keep w t K u es s d) [] at = []
 openings e _ _ _ (keep w t K u es s d) (o ∷ F) at = openings e K u es d F (at + 1)
 openings e _ _ _ (call p c t K u es a h d) [] at = []
 openings e _ _ _ (call p c t K u es a h d) (o ∷ F) at =
-    opening (level_of p) o at ++ openings e _ _ es d (steps_in c.steps (behind_choice c.take (entered (level_of p) o) at) ++ F) (next_at c.take at)
+    opening (level_of p) o at ++ openings e _ _ es d (steps_in c.steps (behind_choice c.take (inside (level_of p) o) at) ++ F) (next_at c.take at)
 openings e _ _ _ (pass p ss K u es x d) [] at = []
 openings e _ _ _ (pass p ss K u es x d) (o ∷ F) at = openings e _ u es d (steps_in ss o ++ F) at
 openings e _ _ _ (stop p K u es d) [] at = []
@@ -66,11 +58,7 @@ openings e _ _ _ (stop p K u es d) (o ∷ F) at = openings e K u es d F at
 openings e _ _ _ (more p c t K u es a h k d) [] at = []
 openings e _ _ _ (more p c t K u es a h k d) (o ∷ F) at =
     opening (level_of p) o at
-    ++ openings e _ _ es d (steps_in c.steps (behind_choice c.take (entered (level_of p) o) at) ++ (as_step o (step.Make form.Add) ∷ (o ∷ F))) (next_at c.take at)
-
--- steps with nothing round them
-abbrev pub outermost : List Step → ℕ → List Pending
-outermost ss at = steps_in ss (record { step = step.Make form.Empty; expressions = 0; statements = 0; began = at })
+    ++ openings e _ _ es d (steps_in c.steps (behind_choice c.take (inside (level_of p) o) at) ++ (as_step o (step.Make form.Add) ∷ (o ∷ F))) (next_at c.take at)
 
 -- the least depth that is too deep
 abbrev pub too_deep : ℕ

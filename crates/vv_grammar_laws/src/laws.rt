@@ -1,13 +1,13 @@
 //! Laws of the grammar. Each function does nothing: its contract is the law.
 
-ghost use Rattle.std.specs.Prelude.{◌≡◌, ℕ, List, [], drop};
+ghost use Rattle.std.specs.Prelude.{◌≡◌, ℕ, List, [], Option, None, drop};
 ghost use Rattle.vv_grammar.specs.declared.event.Event.{Event};
 ghost use Rattle.vv_machine.specs.declared.machine.Stop.TheVariants.{Deep, Misplaced};
 ghost use Rattle.vv_machine.specs.declared.stack.Pending.{Pending};
 ghost use Rattle.vv_grammar.specs.declared.terminal.Terminal.{Terminal};
 ghost use Rattle.vv_machine.specs.Machine.{Halts, Leads, going, misplaced, move, outcome, outcome_behind, reads, starting_with, too_deep};
 ghost use Rattle.vv_grammar_laws.specs.Derivations.{Derives};
-ghost use Rattle.vv_grammar_laws.specs.Readings.{IsDeep, IsReading, IsReadWhole, IsRefusal, IsShallow, IsTooDeep};
+ghost use Rattle.vv_grammar_laws.specs.Readings.{IsDeep, IsReading, IsReadWhole, IsRefusal, IsShallow, IsTooDeep, MayEnd};
 ghost use Rattle.vv_grammar_laws.specs.Starts.{Start, steps_for};
 
 use vv_grammar::edition::Edition;
@@ -20,7 +20,7 @@ pub fn readings_are_one(edition: Edition)
 
 /// What the machine reads is derived, and no longer run of the tokens could be the start of anything.
 pub fn what_is_read_is_derived(edition: Edition, tokens: &[Terminal])
-    ensures { (s : Start) (at next : ℕ) (es : List Event) → Leads edition tokens.now (starting_with (steps_for s) at) at es [] next → IsReading edition s tokens.now at next es }
+    ensures { (s : Start) (at next : ℕ) (es : List Event) → Leads edition tokens.now (starting_with (steps_for s) at) at es [] next None → IsReading edition s tokens.now at next es }
 {}
 
 /// The machine refuses at the first token with which what was read is the start of nothing.
@@ -39,16 +39,25 @@ pub fn what_is_derived_is_read(edition: Edition, tokens: &[Terminal])
     ensures whole { (s : Start) (at : ℕ) (es : List Event) (d : Derives edition (steps_for s) (drop at tokens.now) es)
         → IsShallow edition s (drop at tokens.now) es d at → IsReadWhole edition s tokens.now at es }
     ensures read { (s : Start) (at next : ℕ) (es fs : List Event) → Derives edition (steps_for s) (drop at tokens.now) fs
-        → Leads edition tokens.now (starting_with (steps_for s) at) at es [] next → (es ≡ fs) × (drop next tokens.now ≡ []) }
+        → Leads edition tokens.now (starting_with (steps_for s) at) at es [] next None → (es ≡ fs) × (drop next tokens.now ≡ []) }
     ensures never { (s : Start) (at n : ℕ) (fs : List Event) → Derives edition (steps_for s) (drop at tokens.now) fs
         → Halts edition tokens.now (starting_with (steps_for s) at) at (Misplaced n) → ⊥ }
     ensures deep { (s : Start) (at n : ℕ) (fs : List Event) (d : Derives edition (steps_for s) (drop at tokens.now) fs)
         → Halts edition tokens.now (starting_with (steps_for s) at) at (Deep n) → IsTooDeep edition s (drop at tokens.now) fs d at n }
 {}
 
+/// There is one verdict, told by derivations alone: a reading, one token that is misplaced, or one at which something is settled to be too deep.
+pub fn verdicts_are_one(edition: Edition, tokens: &[Terminal])
+    ensures misplaced { (s : Start) (at n m : ℕ) → IsRefusal edition s tokens.now at n → IsRefusal edition s tokens.now at m → n ≡ m }
+    ensures deep { (s : Start) (at n m : ℕ) → IsDeep edition s tokens.now at n → IsDeep edition s tokens.now at m → n ≡ m }
+    ensures apart { (s : Start) (at n m : ℕ) → IsDeep edition s tokens.now at n → IsRefusal edition s tokens.now at m → ⊥ }
+    ensures not_deep { (s : Start) (at n next : ℕ) (es : List Event) → IsReading edition s tokens.now at next es → IsDeep edition s tokens.now at n → ⊥ }
+    ensures not_misplaced { (s : Start) (at n next : ℕ) (es : List Event) → MayEnd s tokens.now next → IsReading edition s tokens.now at next es → IsRefusal edition s tokens.now at n → ⊥ }
+{}
+
 /// The outcome of a state is told by its move and by the outcome of the state behind that: it has no other bound.
 pub fn outcomes_go_by_moves(edition: Edition, tokens: &[Terminal])
-    ensures { (K : List Pending) (at : ℕ) (es : List Event) → outcome_behind edition tokens.now K at es ≡ going (outcome_behind edition tokens.now) es at (move edition tokens.now K at) }
+    ensures { (K : List Pending) (at : ℕ) (mark : Option ℕ) (es : List Event) → outcome_behind edition tokens.now K at mark es ≡ going (outcome_behind edition tokens.now) es at (move edition tokens.now K at mark) }
 {}
 
 /// The outcome of the machine is a reading, a misplaced token or something too deep, in the sense of derivations.

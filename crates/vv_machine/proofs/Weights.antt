@@ -1,5 +1,5 @@
 -- Each move that takes no token makes what is to come lighter, and one that takes a token adds less than the token was worth: so the moves end.
-use Rattle.std.proofs.Common.{◌≡◌, ℕ, zero, suc, ◌+◌, ◌-◌, ◌*◌, ◌<◌, ◌≤◌, max, nat_lt, Bool, true, false, ◌&&◌, if◌then◌else◌, List, [], ◌∷◌, ◌++◌, length, Option, Some, None, refl, sym, ap, ◌∙◌, subst, arith}
+use Rattle.std.proofs.Common.{◌≡◌, ℕ, zero, suc, ◌+◌, ◌-◌, ◌*◌, ◌<◌, ◌≤◌, max, nat_eq, nat_lt, Bool, true, false, ◌&&◌, if◌then◌else◌, List, [], ◌∷◌, ◌++◌, length, Option, Some, None, refl, sym, ap, ◌∙◌, subst, arith}
 use Rattle.std.proofs.lemmas.Bool.{true≢false, and_parts}
 use Rattle.std.proofs.lemmas.Option.{slice_get_within}
 use borrow.Author.Tests.{ltb-true}
@@ -18,7 +18,7 @@ use Rattle.vv_grammar.specs.declared.step.Take.TheVariants as take
 use Rattle.vv_grammar.specs.declared.terminal.Terminal.{Terminal}
 use Rattle.vv_grammar.specs.Terminals.{same, contains}
 use Rattle.vv_grammar.specs.Table.{Choice, alternatives, otherwise, level_of}
-use Rattle.vv_machine.specs.Machine.{Turn, turn, choose, chosen, as_part, takes, Move, goes, stuck, deep, over, next_terminal, inside, starting, as_step, begun, steps_in, taking, entering, called, repeated, token, move_of, move, drive, going, Outcome, enough}
+use Rattle.vv_machine.specs.Machine.{Turn, turn, choose, chosen, as_part, takes, Advance, advances, fails, ends, Move, goes, stuck, deep, over, next_terminal, inside, marked, as_step, begun, steps_in, taking, turning, called, repeated, token, advance_of, advance, settled, settled_if, move, drive, going, Outcome, enough}
 
 -- what a step weighs, by the weights of places
 abbrev pub weigh_step : (Place → ℕ) → Step → ℕ
@@ -97,9 +97,15 @@ rank-steps : (e : Edition) (ss : List Step) (o : Pending) (K : List Pending) →
 rank-steps e [] o K = omega arith
 rank-steps e (s ∷ ss) o K = let i : rank e (steps_in ss o ++ K) ≡ weigh (weight e) ss + rank e K = rank-steps e ss o K in omega (arith, i)
 
+-- a step leads to a state that weighs less
+abbrev pub Sinks : Edition → List Terminal → ℕ → Advance → Type 0
+Sinks e ts n (advances es L b m) = measure e ts L b < n
+Sinks e ts n fails = Unit {0}
+Sinks e ts n ends = Unit {0}
+
 -- a move leads to a state that weighs less
 abbrev pub Falls : Edition → List Terminal → ℕ → Move → Type 0
-Falls e ts n (goes es L b) = measure e ts L b < n
+Falls e ts n (goes es L b m) = measure e ts L b < n
 Falls e ts n stuck = Unit {0}
 Falls e ts n (deep m) = Unit {0}
 Falls e ts n over = Unit {0}
@@ -151,91 +157,105 @@ took n at w r x h k l = omega arith
 looked : (n at w r x : ℕ) → w + r < x → (w + r) + 64 * (n - at) < x + 64 * (n - at)
 looked n at w r x h = omega arith
 
-taking-falls : (e : Edition) (ts : List Terminal) (k : Take) (at : ℕ) (ss : List Step) (o : Pending) (M : List Pending) (n x : ℕ)
+taking-sinks : (e : Edition) (ts : List Terminal) (k : Take) (at : ℕ) (ss : List Step) (o : Pending) (M : List Pending) (mark : Option ℕ) (n x : ℕ)
     → at < length ts → is_light (weight e) n k ss ≡ true → rank e M < x + 2 → (takes k ≡ false → n + rank e M ≤ x)
-    → Falls e ts (x + 64 * (length ts - at)) (taking k at ss o M)
-taking-falls e ts take.Keep at ss o M n x h k l m =
+    → Sinks e ts (x + 64 * (length ts - at)) (taking k at ss o M mark)
+taking-sinks e ts take.Keep at ss o M mark n x h k l m =
     rw (rank-steps e ss (begun o at) M) (took (length ts) at (weigh (weight e) ss) (rank e M) x h (ltb-true (weigh (weight e) ss) 62 k) l)
-taking-falls e ts take.Skip at ss o M n x h k l m =
+taking-sinks e ts take.Skip at ss o M mark n x h k l m =
     rw (rank-steps e ss (begun o at) M) (took (length ts) at (weigh (weight e) ss) (rank e M) x h (ltb-true (weigh (weight e) ss) 62 k) l)
-taking-falls e ts take.Look at ss o M n x h k l m =
+taking-sinks e ts take.Look at ss o M mark n x h k l m =
     let a : weigh (weight e) ss < n = ltb-true (weigh (weight e) ss) n k in
     let b : n + rank e M ≤ x = m refl in
     rw (rank-steps e ss o M) (looked (length ts) at (weigh (weight e) ss) (rank e M) x (omega (arith, a, b)))
 
-entering-falls : (e : Edition) (ts : List Terminal) (i : Option Pending) (from : ℕ) (r : Turn) (at : ℕ) (M : List Pending) (n x : ℕ)
+turning-sinks : (e : Edition) (ts : List Terminal) (p : Place) (r : Turn) (o : Pending) (at : ℕ) (M : List Pending) (mark : Option ℕ) (n x : ℕ)
     → at < length ts → is_light (weight e) n r.take r.steps ≡ true → rank e M < x + 2 → (takes r.take ≡ false → n + rank e M ≤ x)
-    → Falls e ts (x + 64 * (length ts - at)) (entering i from r at M)
-entering-falls e ts None from r at M n x h k l m = tt
-entering-falls e ts (Some o) from r at M n x h k l m = taking-falls e ts r.take at r.steps o M n x h k l m
+    → Sinks e ts (x + 64 * (length ts - at)) (turning p r o at M mark)
+turning-sinks e ts p r o at M mark n x h k l m = taking-sinks e ts r.take at r.steps (inside (level_of p) o) M (marked (level_of p) o at mark) n x h k l m
 
-called-falls : (e : Edition) (ts : List Terminal) (r : Option Turn) (other : Option (List Step)) (p : Place) (o : Pending) (at : ℕ) (K : List Pending)
+called-sinks : (e : Edition) (ts : List Terminal) (r : Option Turn) (other : Option (List Step)) (p : Place) (o : Pending) (at : ℕ) (K : List Pending) (mark : Option ℕ)
     → NeedsNext r at ts → IsLightTurn (weight e) (weight e p) r → else_light (weight e) (weight e p) other ≡ true
-    → Falls e ts ((weight e p + rank e K) + 64 * (length ts - at)) (called r other p o at K)
-called-falls e ts (Some r) other p o at K h k l =
-    entering-falls e ts (inside (level_of p) o) (starting (level_of p) o at) r at K (weight e p) (weight e p + rank e K) h k (omega arith) (λ z. omega arith)
-called-falls e ts None (Some ss) p o at K h k l =
+    → Sinks e ts ((weight e p + rank e K) + 64 * (length ts - at)) (called r other p o at K mark)
+called-sinks e ts (Some r) other p o at K mark h k l = turning-sinks e ts p r o at K mark (weight e p) (weight e p + rank e K) h k (omega arith) (λ z. omega arith)
+called-sinks e ts None (Some ss) p o at K mark h k l =
     let a : weigh (weight e) ss < weight e p = ltb-true (weigh (weight e) ss) (weight e p) l in
     rw (rank-steps e ss o K) (looked (length ts) at (weigh (weight e) ss) (rank e K) (weight e p + rank e K) (omega (arith, a)))
-called-falls e ts None None p o at K h k l = tt
+called-sinks e ts None None p o at K mark h k l = tt
 
-repeated-falls : (e : Edition) (ts : List Terminal) (r : Option Turn) (p : Place) (o : Pending) (at : ℕ) (K : List Pending) → o.step ≡ step.Many p
+repeated-sinks : (e : Edition) (ts : List Terminal) (r : Option Turn) (p : Place) (o : Pending) (at : ℕ) (K : List Pending) (mark : Option ℕ) → o.step ≡ step.Many p
     → NeedsNext r at ts → IsLightTurn (weight e) (weight e p) r
-    → Falls e ts ((1 + rank e K) + 64 * (length ts - at)) (repeated (as_part r) p o at K)
-repeated-falls e ts None p o at K s h k = omega arith
-repeated-falls e ts (Some r) p o at K s h k = go (takes r.take) refl
+    → Sinks e ts ((1 + rank e K) + 64 * (length ts - at)) (repeated (as_part r) p o at K mark)
+repeated-sinks e ts None p o at K mark s h k = omega arith
+repeated-sinks e ts (Some r) p o at K mark s h k = go (takes r.take) refl
   where
     pushed : rank e (as_step o (step.Make form.Add) ∷ o ∷ K) ≡ 2 + rank e K
     pushed = let i : weigh_step (weight e) o.step ≡ 1 = ap (weigh_step (weight e)) s in omega (arith, i)
 
-    go : (b : Bool) → takes r.take ≡ b → Falls e ts ((1 + rank e K) + 64 * (length ts - at)) (repeated (if b then Some r else None) p o at K)
+    go : (b : Bool) → takes r.take ≡ b → Sinks e ts ((1 + rank e K) + 64 * (length ts - at)) (repeated (if b then Some r else None) p o at K mark)
     go false t = omega arith
     go true t =
-        entering-falls e ts (inside (level_of p) o) (starting (level_of p) o at) r at (as_step o (step.Make form.Add) ∷ o ∷ K) (weight e p) (1 + rank e K) h k
+        turning-sinks e ts p r o at (as_step o (step.Make form.Add) ∷ o ∷ K) mark (weight e p) (1 + rank e K) h k
         (omega (arith, pushed)) (λ z. absurd (true≢false (sym t ∙ z)))
 
-token-falls : (e : Edition) (ts : List Terminal) (f : Event) (w : Terminal) (t : Option Terminal) (at : ℕ) (K : List Pending) → IsNext t at ts
-    → Falls e ts ((1 + rank e K) + 64 * (length ts - at)) (token f w t at K)
-token-falls e ts f w None at K h = tt
-token-falls e ts f w (Some t) at K h = go (same w t)
+token-sinks : (e : Edition) (ts : List Terminal) (f : Event) (w : Terminal) (t : Option Terminal) (at : ℕ) (K : List Pending) (mark : Option ℕ) → IsNext t at ts
+    → Sinks e ts ((1 + rank e K) + 64 * (length ts - at)) (token f w t at K mark)
+token-sinks e ts f w None at K mark h = tt
+token-sinks e ts f w (Some t) at K mark h = go (same w t)
   where
-    go : (b : Bool) → Falls e ts ((1 + rank e K) + 64 * (length ts - at)) (if b then goes (f ∷ []) K (at + 1) else stuck)
+    go : (b : Bool) → Sinks e ts ((1 + rank e K) + 64 * (length ts - at)) (if b then advances (f ∷ []) K (at + 1) mark else fails)
     go true = omega arith
     go false = tt
 
-step-falls : (e : Edition) (ts : List Terminal) (s : Step) (o : Pending) (at : ℕ) (K : List Pending) (t : Option Terminal) → o.step ≡ s → IsNext t at ts
-    → Falls e ts ((weigh_step (weight e) s + rank e K) + 64 * (length ts - at)) (move_of e t s o at K)
-step-falls e ts (step.Call p) o at K t s h =
-    called-falls e ts (chosen e p t) (otherwise p) p o at K (chosen-next e p t at ts h) (chosen-light e p t) (is_balanced e p).other
-step-falls e ts (step.Many p) o at K t s h = repeated-falls e ts (chosen e p t) p o at K s (chosen-next e p t at ts h) (chosen-light e p t)
-step-falls e ts (step.Skip w) o at K t s h = token-falls e ts event.Skip w t at K h
-step-falls e ts (step.Keep w) o at K t s h = token-falls e ts event.Keep w t at K h
-step-falls e ts (step.Make f) o at K t s h = omega arith
+step-sinks : (e : Edition) (ts : List Terminal) (s : Step) (o : Pending) (at : ℕ) (K : List Pending) (mark : Option ℕ) (t : Option Terminal) → o.step ≡ s → IsNext t at ts
+    → Sinks e ts ((weigh_step (weight e) s + rank e K) + 64 * (length ts - at)) (advance_of e t s o at K mark)
+step-sinks e ts (step.Call p) o at K mark t s h =
+    called-sinks e ts (chosen e p t) (otherwise p) p o at K mark (chosen-next e p t at ts h) (chosen-light e p t) (is_balanced e p).other
+step-sinks e ts (step.Many p) o at K mark t s h = repeated-sinks e ts (chosen e p t) p o at K mark s (chosen-next e p t at ts h) (chosen-light e p t)
+step-sinks e ts (step.Skip w) o at K mark t s h = token-sinks e ts event.Skip w t at K mark h
+step-sinks e ts (step.Keep w) o at K mark t s h = token-sinks e ts event.Keep w t at K mark h
+step-sinks e ts (step.Make f) o at K mark t s h = omega arith
+
+sinks : (e : Edition) (ts : List Terminal) (K : List Pending) (at : ℕ) (mark : Option ℕ) → Sinks e ts (measure e ts K at) (advance e ts K at mark)
+sinks e ts [] at mark = tt
+sinks e ts (o ∷ K) at mark = step-sinks e ts o.step o at K mark (next_terminal ts at) refl (is_next ts at)
+
+settled-falls : (e : Edition) (ts : List Terminal) (n at : ℕ) (mark : Option ℕ) (x : Advance) → Sinks e ts n x → Falls e ts n (settled at mark x)
+settled-falls e ts n at mark (advances es L b None) h = h
+settled-falls e ts n at mark (advances es L b (Some m)) h = go (nat_eq b at)
+  where
+    go : (y : Bool) → Falls e ts n (settled_if y es L b m)
+    go true = h
+    go false = tt
+settled-falls e ts n at None fails h = tt
+settled-falls e ts n at (Some m) fails h = tt
+settled-falls e ts n at None ends h = tt
+settled-falls e ts n at (Some m) ends h = tt
 
 -- Each move leads to a state that weighs less.
-pub falls : (e : Edition) (ts : List Terminal) (K : List Pending) (at : ℕ) → Falls e ts (measure e ts K at) (move e ts K at)
-falls e ts [] at = tt
-falls e ts (o ∷ K) at = step-falls e ts o.step o at K (next_terminal ts at) refl (is_next ts at)
+pub falls : (e : Edition) (ts : List Terminal) (K : List Pending) (at : ℕ) (mark : Option ℕ) → Falls e ts (measure e ts K at) (move e ts K at mark)
+falls e ts K at mark = settled-falls e ts (measure e ts K at) at mark (advance e ts K at mark) (sinks e ts K at mark)
 
-pub fell_to : (e : Edition) (ts : List Terminal) (K L : List Pending) (at b : ℕ) (fs : List Event) → move e ts K at ≡ goes fs L b → measure e ts L b < measure e ts K at
-fell_to e ts K L at b fs i = subst (Falls e ts (measure e ts K at)) i (falls e ts K at)
+pub fell_to : (e : Edition) (ts : List Terminal) (K L : List Pending) (at b : ℕ) (mark later : Option ℕ) (fs : List Event) → move e ts K at mark ≡ goes fs L b later
+    → measure e ts L b < measure e ts K at
+fell_to e ts K L at b mark later fs i = subst (Falls e ts (measure e ts K at)) i (falls e ts K at mark)
 
-pub going_on_as : (f g : List Pending → ℕ → List Event → Outcome) (es : List Event) (at : ℕ) (v : Move)
-    → ((fs : List Event) (L : List Pending) (b : ℕ) → v ≡ goes fs L b → f L b (es ++ fs) ≡ g L b (es ++ fs)) → going f es at v ≡ going g es at v
-going_on_as f g es at (goes fs L b) h = h fs L b refl
+pub going_on_as : (f g : List Pending → ℕ → Option ℕ → List Event → Outcome) (es : List Event) (at : ℕ) (v : Move)
+    → ((fs : List Event) (L : List Pending) (b : ℕ) (m : Option ℕ) → v ≡ goes fs L b m → f L b m (es ++ fs) ≡ g L b m (es ++ fs)) → going f es at v ≡ going g es at v
+going_on_as f g es at (goes fs L b m) h = h fs L b m refl
 going_on_as f g es at stuck h = refl
 going_on_as f g es at (deep n) h = refl
 going_on_as f g es at over h = refl
 
 -- More moves than a state weighs change nothing.
-pub driven_on : (m n : ℕ) (e : Edition) (ts : List Terminal) (K : List Pending) (at : ℕ) (es : List Event)
-    → measure e ts K at < m → measure e ts K at < n → drive m e ts K at es ≡ drive n e ts K at es
+pub driven_on : (m n : ℕ) (e : Edition) (ts : List Terminal) (K : List Pending) (at : ℕ) (mark : Option ℕ) (es : List Event)
+    → measure e ts K at < m → measure e ts K at < n → drive m e ts K at mark es ≡ drive n e ts K at mark es
 unfolding drive
-driven_on zero n e ts K at es h k = absurd (omega arith)
-driven_on (suc m) zero e ts K at es h k = absurd (omega arith)
-driven_on (suc m) (suc n) e ts K at es h k =
-    going_on_as (λ L b fs. drive m e ts L b fs) (λ L b fs. drive n e ts L b fs) es at (move e ts K at)
-    (λ fs L b i. let f : measure e ts L b < measure e ts K at = fell_to e ts K L at b fs i in driven_on m n e ts L b (es ++ fs) (omega (arith, f)) (omega (arith, f)))
+driven_on zero n e ts K at mark es h k = absurd (omega arith)
+driven_on (suc m) zero e ts K at mark es h k = absurd (omega arith)
+driven_on (suc m) (suc n) e ts K at mark es h k =
+    going_on_as (λ L b x fs. drive m e ts L b x fs) (λ L b x fs. drive n e ts L b x fs) es at (move e ts K at mark)
+    (λ fs L b x i. let f : measure e ts L b < measure e ts K at = fell_to e ts K L at b mark x fs i in driven_on m n e ts L b x (es ++ fs) (omega (arith, f)) (omega (arith, f)))
 
 step-bounded : (e : Edition) (s : Step) → weigh_step (weight e) s ≤ 64
 step-bounded e (step.Call p) = let h : weight e p < 64 = (is_balanced e p).limit in omega arith

@@ -1,6 +1,6 @@
 //! The machine that goes by the table.
 
-ghost use Rattle.std.specs.Prelude.{◌≡◌, ◌++◌, ◌∷◌, ◌+◌, ◌<◌, ◌≤◌, [], option_map, length, IfOk, IfErr, OnOk};
+ghost use Rattle.std.specs.Prelude.{◌≡◌, ◌++◌, ◌∷◌, ◌+◌, ◌<◌, ◌≤◌, [], length, None, IfOk, IfErr, OnOk};
 ghost use Rattle.vv_machine.specs.Jumps.{turn_of};
 ghost use Rattle.vv_machine.specs.Machine as spec;
 ghost use Rattle.vv_grammar.specs.Table as table;
@@ -58,6 +58,8 @@ pub struct State {
     pub stack: Stack,
     /// The number of the next token.
     pub at: usize,
+    /// The first token at which something too deep starts, of what the next token tells.
+    pub mark: Option<usize>,
     /// What has happened.
     pub events: Vec<Event>,
 }
@@ -102,46 +104,63 @@ fn alternative(edition: Edition, place: Place, number: usize) -> &'static Altern
     &alternatives(edition, place)[number - 1]
 }
 
-/// The same step at one level of expressions less, if there is one.
-fn less_expressions(pending: Pending) -> Option<Pending>
-    ensures { result ≡ option_map (spec.with_expressions pending) (spec.fewer pending.expressions) }
+/// One more round a step. What is too deep is not told apart from what is deeper still, so no more are counted.
+fn one_more(count: u32) -> u32
+    ensures { result ≡ spec.one_more count }
 {
-    if pending.expressions == 0 {
-        return None;
+    if LEVELS < count {
+        return count;
     }
-    Some(Pending {
+    count + 1
+}
+
+/// The same step with one more expression round it.
+fn more_expressions(pending: Pending) -> Pending
+    ensures { result ≡ spec.with_expressions pending (spec.one_more pending.expressions) }
+{
+    Pending {
         step: pending.step,
-        expressions: pending.expressions - 1,
+        expressions: one_more(pending.expressions),
         statements: pending.statements,
         began: pending.began,
-    })
+    }
 }
 
-/// The same step at one level of statements less, if there is one.
-fn less_statements(pending: Pending) -> Option<Pending>
-    ensures { result ≡ option_map (spec.with_statements pending) (spec.fewer pending.statements) }
+/// The same step with one more statement round it.
+fn more_statements(pending: Pending) -> Pending
+    ensures { result ≡ spec.with_statements pending (spec.one_more pending.statements) }
 {
-    if pending.statements == 0 {
-        return None;
-    }
-    Some(Pending {
+    Pending {
         step: pending.step,
         expressions: pending.expressions,
-        statements: pending.statements - 1,
+        statements: one_more(pending.statements),
         began: pending.began,
-    })
+    }
 }
 
-/// What holds inside what starts at a place, or nothing where it is too deep.
-fn inside(level: Level, pending: Pending) -> Option<Pending>
+/// What is round the steps inside what starts at a place.
+fn inside(level: Level, pending: Pending) -> Pending
     ensures { result ≡ spec.inside level pending }
 {
     match level {
-        Level::Same => Some(pending),
-        Level::Expression => less_expressions(pending),
-        Level::ExpressionBehind => less_expressions(pending),
-        Level::Statement => less_statements(pending),
-        Level::StatementBehind => less_statements(pending),
+        Level::Same => pending,
+        Level::Expression => more_expressions(pending),
+        Level::ExpressionBehind => more_expressions(pending),
+        Level::Statement => more_statements(pending),
+        Level::StatementBehind => more_statements(pending),
+    }
+}
+
+/// Whether what starts at a place is one level too deep.
+fn is_too_deep(level: Level, pending: Pending) -> bool
+    ensures { result ≡ spec.is_too_deep level pending }
+{
+    match level {
+        Level::Same => false,
+        Level::Expression => pending.expressions == LEVELS,
+        Level::ExpressionBehind => pending.expressions == LEVELS,
+        Level::Statement => pending.statements == LEVELS,
+        Level::StatementBehind => pending.statements == LEVELS,
     }
 }
 
@@ -158,10 +177,36 @@ fn starting(level: Level, pending: Pending, at: usize) -> usize
     }
 }
 
+/// The earlier one of a mark and a token.
+fn earlier(mark: Option<usize>, token: usize) -> usize
+    ensures { result ≡ spec.earlier mark token }
+{
+    match mark {
+        Some(marked) => {
+            if marked < token {
+                return marked;
+            }
+            token
+        }
+        None => token,
+    }
+}
+
+/// The mark behind the start of a place.
+fn marked(level: Level, pending: Pending, at: usize, mark: Option<usize>) -> Option<usize>
+    ensures { result ≡ spec.marked level pending at mark }
+{
+    if is_too_deep(level, pending) {
+        return Some(earlier(mark, starting(level, pending, at)));
+    }
+    mark
+}
+
 /// Takes the next token.
 fn pass(state: &mut State, tokens: &[Terminal], event: Event) -> Result<(), Stop>
     requires { state.old.at < length tokens.now }
     ensures stack { state.new.stack ≡ state.old.stack }
+    ensures mark { state.new.mark ≡ state.old.mark }
     ensures at { OnOk result (state.new.at ≡ state.old.at + 1) }
     ensures events { OnOk result (state.new.events.items ≡ state.old.events.items ++ event ∷ []) }
     ensures err { IfErr result (λ s. s ≡ Stop.Memory) }
@@ -180,7 +225,7 @@ fn take(
     around: Pending,
 ) -> Result<(), Stop>
     requires { state.old.at < length tokens.now }
-    ensures ok { OnOk result (spec.Moved state.old state.new (spec.taking take state.old.at steps.now around state.old.stack)) }
+    ensures ok { OnOk result (spec.Advanced state.old state.new (spec.taking take state.old.at steps.now around state.old.stack state.old.mark)) }
     ensures err { IfErr result (λ s. s ≡ Stop.Memory) }
 {
     let inner = Pending {
@@ -202,7 +247,7 @@ fn take(
     }
 }
 
-/// Goes on at a place by an alternative, where it is not too deep.
+/// Goes on at a place by an alternative.
 fn turn_at(
     state: &mut State,
     tokens: &[Terminal],
@@ -211,20 +256,18 @@ fn turn_at(
     pending: Pending,
 ) -> Result<(), Stop>
     requires { state.old.at < length tokens.now }
-    ensures ok { OnOk result (spec.Moved state.old state.new (spec.turning place (spec.turn turn.now.1 turn.now.2.now) pending state.old.at state.old.stack)) }
-    ensures err { IfErr result (λ s. spec.IsStop s state.old.at (spec.turning place (spec.turn turn.now.1 turn.now.2.now) pending state.old.at state.old.stack)) }
+    ensures ok { OnOk result (spec.Advanced state.old state.new (spec.turning place (spec.turn turn.now.1 turn.now.2.now) pending state.old.at state.old.stack state.old.mark)) }
+    ensures err { IfErr result (λ s. s ≡ Stop.Memory) }
 {
     let level = level(place);
-    match inside(level, pending) {
-        None => Err(Stop::Deep(starting(level, pending, state.at))),
-        Some(around) => take(state, tokens, turn.1, turn.2, around),
-    }
+    state.mark = marked(level, pending, state.at, state.mark);
+    take(state, tokens, turn.1, turn.2, inside(level, pending))
 }
 
 /// Takes the next token, which has to be this one.
 fn token(state: &mut State, tokens: &[Terminal], event: Event, wanted: Terminal) -> Result<(), Stop>
-    ensures ok { OnOk result (spec.Moved state.old state.new (spec.token event wanted (spec.next_terminal tokens.now state.old.at) state.old.at state.old.stack)) }
-    ensures err { IfErr result (λ s. spec.IsStop s state.old.at (spec.token event wanted (spec.next_terminal tokens.now state.old.at) state.old.at state.old.stack)) }
+    ensures ok { OnOk result (spec.Advanced state.old state.new (spec.token event wanted (spec.next_terminal tokens.now state.old.at) state.old.at state.old.stack state.old.mark)) }
+    ensures err { IfErr result (λ s. spec.IsFailure s state.old.at (spec.token event wanted (spec.next_terminal tokens.now state.old.at) state.old.at state.old.stack state.old.mark)) }
 {
     match next_terminal(tokens, state.at) {
         Some(found) => {
@@ -245,8 +288,8 @@ fn call(
     place: Place,
     pending: Pending,
 ) -> Result<(), Stop>
-    ensures ok { OnOk result (spec.Moved state.old state.new (spec.called (spec.chosen jumps.now.edition place (spec.next_terminal tokens.now state.old.at)) (table.otherwise place) place pending state.old.at state.old.stack)) }
-    ensures err { IfErr result (λ s. spec.IsStop s state.old.at (spec.called (spec.chosen jumps.now.edition place (spec.next_terminal tokens.now state.old.at)) (table.otherwise place) place pending state.old.at state.old.stack)) }
+    ensures ok { OnOk result (spec.Advanced state.old state.new (spec.called (spec.chosen jumps.now.edition place (spec.next_terminal tokens.now state.old.at)) (table.otherwise place) place pending state.old.at state.old.stack state.old.mark)) }
+    ensures err { IfErr result (λ s. spec.IsFailure s state.old.at (spec.called (spec.chosen jumps.now.edition place (spec.next_terminal tokens.now state.old.at)) (table.otherwise place) place pending state.old.at state.old.stack state.old.mark)) }
 {
     match chosen(jumps, place, tokens, state.at) {
         0 => match otherwise(place) {
@@ -279,8 +322,8 @@ fn repeat(
     place: Place,
     pending: Pending,
 ) -> Result<(), Stop>
-    ensures ok { OnOk result (spec.Moved state.old state.new (spec.repeated (spec.as_part (spec.chosen jumps.now.edition place (spec.next_terminal tokens.now state.old.at))) place pending state.old.at state.old.stack)) }
-    ensures err { IfErr result (λ s. spec.IsStop s state.old.at (spec.repeated (spec.as_part (spec.chosen jumps.now.edition place (spec.next_terminal tokens.now state.old.at))) place pending state.old.at state.old.stack)) }
+    ensures ok { OnOk result (spec.Advanced state.old state.new (spec.repeated (spec.as_part (spec.chosen jumps.now.edition place (spec.next_terminal tokens.now state.old.at))) place pending state.old.at state.old.stack state.old.mark)) }
+    ensures err { IfErr result (λ s. spec.IsFailure s state.old.at (spec.repeated (spec.as_part (spec.chosen jumps.now.edition place (spec.next_terminal tokens.now state.old.at))) place pending state.old.at state.old.stack state.old.mark)) }
 {
     match chosen(jumps, place, tokens, state.at) {
         0 => Ok(()),
@@ -301,15 +344,15 @@ fn repeat(
     }
 }
 
-/// One move.
+/// One step of what is to come.
 fn advance(
     jumps: &Jumps,
     tokens: &[Terminal],
     state: &mut State,
     pending: Pending,
 ) -> Result<(), Stop>
-    ensures ok { OnOk result (spec.Moved state.old state.new (spec.move jumps.now.edition tokens.now (pending ∷ state.old.stack) state.old.at)) }
-    ensures err { IfErr result (λ s. spec.IsStop s state.old.at (spec.move jumps.now.edition tokens.now (pending ∷ state.old.stack) state.old.at)) }
+    ensures ok { OnOk result (spec.Advanced state.old state.new (spec.advance jumps.now.edition tokens.now (pending ∷ state.old.stack) state.old.at state.old.mark)) }
+    ensures err { IfErr result (λ s. spec.IsFailure s state.old.at (spec.advance jumps.now.edition tokens.now (pending ∷ state.old.stack) state.old.at state.old.mark)) }
 {
     match pending.step {
         Step::Call(place) => call(jumps, tokens, state, place, pending),
@@ -320,22 +363,54 @@ fn advance(
     }
 }
 
+/// The machine stops where a token is taken with which something is too deep.
+fn settle(mark: Option<usize>, before: usize, at: usize) -> Result<(), Stop>
+    ensures ok { OnOk result (spec.IsUnsettled mark before at) }
+    ensures err { IfErr result (λ s. spec.IsSettled s mark before at) }
+{
+    match mark {
+        Some(start) => {
+            if at == before {
+                return Ok(());
+            }
+            Err(Stop::Deep(start))
+        }
+        None => Ok(()),
+    }
+}
+
+/// One move.
+fn make_move(
+    jumps: &Jumps,
+    tokens: &[Terminal],
+    state: &mut State,
+    pending: Pending,
+) -> Result<(), Stop>
+    ensures ok { OnOk result (spec.Moved state.old state.new (spec.move jumps.now.edition tokens.now (pending ∷ state.old.stack) state.old.at state.old.mark)) }
+    ensures err { IfErr result (λ s. spec.IsStop s state.old.at (spec.move jumps.now.edition tokens.now (pending ∷ state.old.stack) state.old.at state.old.mark)) }
+{
+    let before = state.at;
+    advance(jumps, tokens, state, pending)?;
+    settle(state.mark, before, state.at)
+}
+
 /// A state before these steps, with nothing round them.
 fn begin(alloc: Global, steps: &[Step], at: usize) -> Result<State, Stop>
-    ensures ok { IfOk result (λ s. (s.stack ≡ spec.starting_with steps.now at) × (s.at ≡ at) × (s.events.items ≡ [])) }
+    ensures ok { IfOk result (λ s. (s.stack ≡ spec.starting_with steps.now at) × (s.at ≡ at) × (s.mark ≡ None) × (s.events.items ≡ [])) }
     ensures err { IfErr result (λ s. s ≡ Stop.Memory) }
 {
     let mut stack = Stack::new(alloc);
     let around = Pending {
         step: Step::Make(Form::Empty),
-        expressions: LEVELS,
-        statements: LEVELS,
+        expressions: 0,
+        statements: 0,
         began: at,
     };
     stack.push_steps(steps, around)?;
     Ok(State {
         stack,
         at,
+        mark: None,
         events: Vec::new(alloc),
     })
 }
@@ -348,7 +423,7 @@ pub fn run(
     tokens: &[Terminal],
     at: usize,
 ) -> Result<Reading, Stop>
-    ensures read { IfOk result (λ r. spec.Leads edition tokens.now (spec.starting_with steps.now at) at r.events.items [] r.at) }
+    ensures read { IfOk result (λ r. spec.Leads edition tokens.now (spec.starting_with steps.now at) at r.events.items [] r.at None) }
     ensures outcome { IfOk result (λ r. spec.outcome edition tokens.now (spec.starting_with steps.now at) at ≡ spec.reads r.events.items r.at) }
     ensures stopped { IfErr result (λ s. spec.IsOutcome s (spec.outcome edition tokens.now (spec.starting_with steps.now at) at)) }
     ensures halts { IfErr result (λ s. spec.Stops edition tokens.now (spec.starting_with steps.now at) at s) }
@@ -356,10 +431,13 @@ pub fn run(
     let jumps = Jumps::new(alloc, edition)?;
     let mut state = begin(alloc, steps, at)?;
     'moves: while let Some(pending) = state.stack.pop() {
-        advance(&jumps, tokens, &mut state, pending)?;
+        make_move(&jumps, tokens, &mut state, pending)?;
     }
-    Ok(Reading {
-        events: state.events,
-        at: state.at,
-    })
+    match state.mark {
+        Some(start) => Err(Stop::Deep(start)),
+        None => Ok(Reading {
+            events: state.events,
+            at: state.at,
+        }),
+    }
 }

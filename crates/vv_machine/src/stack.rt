@@ -12,9 +12,9 @@ use vv_grammar::step::Step;
 #[derive(Clone, Copy, Debug)]
 pub struct Pending {
     pub step: Step,
-    /// How many levels of expressions may still open in it.
+    /// How many expressions are round it, counted up to the first that is too deep.
     pub expressions: u32,
-    /// How many levels of statements may still open in it.
+    /// How many statements are round it, counted likewise.
     pub statements: u32,
     /// The number of the token at which the production round it started.
     pub began: usize,

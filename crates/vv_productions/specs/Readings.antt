@@ -10,6 +10,7 @@ use Rattle.vv_machine.specs.Machine.{next_terminal, starting_with, Leads, Halts}
 use Rattle.vv_grammar.specs.Terminals.{terminals_of}
 use Rattle.vv_grammar.specs.Trees.{Tree, replay}
 use Rattle.vv_grammar_laws.specs.Starts.{Start, steps_for, AreBetween}
+use Rattle.vv_grammar_laws.specs.Readings.{MayEnd}
 use Rattle.vv_productions.specs.Matches.{Matches, phrase_for}
 
 -- The tokens are the start of some that match.
@@ -25,18 +26,18 @@ pub record IsRead (e : Edition) (s : Start) (ts : List Terminal) (a b : ℕ) (es
   pub matches : Matches e (phrase_for s ∷ []) tokens es
   pub longest : (t : Terminal) → next_terminal ts b ≡ Some t → IsStart e s (tokens ++ (t ∷ [])) → ⊥
 
--- The tokens from a up to n are the start of some that match; with token n they are not, and where there is no token n they don't match themselves.
+-- The tokens from a up to n are the start of some that match; with token n they are not, and where they may end they don't match themselves.
 pub record IsMisplaced (e : Edition) (s : Start) (ts : List Terminal) (a n : ℕ) : Type 0 where
   pub tokens : List Terminal
   pub between : AreBetween ts a n tokens
   pub starts : IsStart e s tokens
   pub never : (t : Terminal) → next_terminal ts n ≡ Some t → IsStart e s (tokens ++ (t ∷ [])) → ⊥
-  pub ends : (es : List Event) → next_terminal ts n ≡ None → Matches e (phrase_for s ∷ []) tokens es → ⊥
+  pub ends : (es : List Event) → MayEnd s ts n → Matches e (phrase_for s ∷ []) tokens es → ⊥
 
 -- The machine reads all tokens from a on, and these events happen; or something is too deep for it.
 abbrev pub IsReadOrDeep : Edition → Start → List Terminal → ℕ → List Event → Type 0
 IsReadOrDeep e s ts a es =
-    ((b : ℕ) × Leads e ts (starting_with (steps_for s) a) a es [] b × (drop b ts ≡ []))
+    ((b : ℕ) × Leads e ts (starting_with (steps_for s) a) a es [] b None × (drop b ts ≡ []))
     ⊎ ((n : ℕ) × Halts e ts (starting_with (steps_for s) a) a (Deep n))
 
 -- before the first token

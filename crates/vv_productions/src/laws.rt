@@ -1,6 +1,6 @@
 //! Laws of the productions. Each function does nothing: its contract is the law.
 
-ghost use Rattle.std.specs.Prelude.{◌≡◌, ℕ, List, [], ◌∷◌, drop};
+ghost use Rattle.std.specs.Prelude.{◌≡◌, ℕ, List, [], ◌∷◌, None, drop};
 ghost use Rattle.vv_vlex.specs.declared.token.Token.{Token};
 ghost use Rattle.vv_grammar.specs.declared.event.Event.{Event};
 ghost use Rattle.vv_machine.specs.declared.machine.Stop.TheVariants.{Misplaced};
@@ -39,7 +39,7 @@ pub fn what_matches_has_a_tree(edition: Edition)
 
 /// What the machine reads matches, and no longer run of the tokens could be the start of anything.
 pub fn what_is_read_matches(edition: Edition, tokens: &[Terminal])
-    ensures { (s : Start) (at next : ℕ) (es : List Event) → Leads edition tokens.now (starting_with (steps_for s) at) at es [] next → IsRead edition s tokens.now at next es }
+    ensures { (s : Start) (at next : ℕ) (es : List Event) → Leads edition tokens.now (starting_with (steps_for s) at) at es [] next None → IsRead edition s tokens.now at next es }
 {}
 
 /// Where all tokens from one on match, the machine reads them, unless something is too deep for it.

@@ -1,5 +1,5 @@
 -- What the machine answers, told by the productions and by derivations.
-use Rattle.std.proofs.Common.{◌≡◌, ◌∙◌, ℕ, ◌+◌, ◌-◌, ◌<◌, ◌≤◌, List, [], ◌∷◌, ◌++◌, Some, None, drop, take, length, slice_get, get_or, sym, ap, subst, arith, length-append}
+use Rattle.std.proofs.Common.{◌≡◌, ◌∙◌, ℕ, ◌-◌, ◌<◌, ◌≤◌, List, [], ◌∷◌, ◌++◌, Some, None, drop, take, length, slice_get, get_or, sym, subst, arith}
 use Rattle.std.specs.Prelude.{◌⊎◌}
 use Rattle.std.proofs.lemmas.List.{append-nil, take_all, length-drop}
 use Rattle.std.proofs.lemmas.Option.{slice_get_cases, none-some}
@@ -16,10 +16,10 @@ use Rattle.vv_grammar.specs.Terminals.{terminals_of}
 use Rattle.vv_grammar.specs.Trees.{Tree, replay}
 use Rattle.vv_machine.specs.declared.machine.Stop.{Stop}
 use Rattle.vv_machine.specs.declared.machine.Stop.TheVariants as stop
-use Rattle.vv_machine.specs.Machine.{Leads, Halts, IsOutcome, Stops, outcome, too_deep as deep_outcome, starting_with, next_terminal}
+use Rattle.vv_machine.specs.Machine.{Leads, Halts, Stops, starting_with, next_terminal}
 use Rattle.vv_grammar_laws.specs.Derivations.{Derives}
 use Rattle.vv_grammar_laws.specs.Readings.{IsReading, IsRefusal, IsShallow}
-use Rattle.vv_grammar_laws.specs.Starts.{Start, steps_for, AreBetween}
+use Rattle.vv_grammar_laws.specs.Starts.{Start, file, steps_for}
 use Rattle.vv_grammar_laws.proofs.Ends.{reads, refuses}
 use Rattle.vv_grammar_laws.proofs.Deep.{too_deep}
 use Rattle.vv_productions.specs.Readings.{nowhere}
@@ -30,10 +30,10 @@ pub rest_of : (n : ℕ) (ts : List Token) → take (length ts - n) (drop n ts) �
 rest_of n ts = take_all (length ts - n) (drop n ts) (omega (arith, length-drop n ts))
 
 pub read_as : (e : Edition) (s : Start) (ts : List Token) (ks : List Terminal) (steps : List Step) (a b : ℕ) (es : List Event) (t : Tree)
-    → ks ≡ terminals_of ts → steps ≡ steps_for s → Leads e ks (starting_with steps a) a es [] b → replay es (drop a ts) nowhere [] ≡ t ∷ []
+    → ks ≡ terminals_of ts → steps ≡ steps_for s → Leads e ks (starting_with steps a) a es [] b None → replay es (drop a ts) nowhere [] ≡ t ∷ []
     → IsReadAs e s ts a b t
 read_as e s ts ks steps a b es t k p l m =
-    let led : Leads e (terminals_of ts) (starting_with (steps_for s) a) a es [] b = rw (sym k, sym p) l in
+    let led : Leads e (terminals_of ts) (starting_with (steps_for s) a) a es [] b None = rw (sym k, sym p) l in
     record {
       events = es;
       read = read-of e s (terminals_of ts) a b es (reads e s (terminals_of ts) a b es led);
@@ -46,17 +46,16 @@ pub refused_as : (e : Edition) (s : Start) (ts : List Token) (a n : ℕ) (sp : S
 refused_as e s ts a n sp h r = rw h (misplaced_at n (misplaced-of e s (terminals_of ts) a n r) r)
 
 pub not_read : (e : Edition) (s : Start) (ts : List Token) (ks : List Terminal) (steps : List Step) (a : ℕ) (st : Stop) (f : Fault)
-    → ks ≡ terminals_of ts → steps ≡ steps_for s → IsOutcome st (outcome e ks (starting_with steps a) a) → Stops e ks (starting_with steps a) a st
+    → ks ≡ terminals_of ts → steps ≡ steps_for s → Stops e ks (starting_with steps a) a st
     → IsFaultOf st ts f → IsNotRead e s ts a f
-not_read e s ts ks steps a stop.Memory f k p o l h = rw h tt
-not_read e s ts ks steps a (stop.Misplaced n) f k p o l h =
+not_read e s ts ks steps a stop.Memory f k p l h = rw h tt
+not_read e s ts ks steps a (stop.Misplaced n) f k p l h =
     let halted : Halts e (terminals_of ts) (starting_with (steps_for s) a) a (stop.Misplaced n) = rw (sym k, sym p) l in
     let refusal : IsRefusal e s (terminals_of ts) a n = refuses e s (terminals_of ts) a n halted in
     rw h (misplaced_at n (misplaced-of e s (terminals_of ts) a n refusal) refusal)
-not_read e s ts ks steps a (stop.Deep n) f k p o l h =
+not_read e s ts ks steps a (stop.Deep n) f k p l h =
     let halted : Halts e (terminals_of ts) (starting_with (steps_for s) a) a (stop.Deep n) = rw (sym k, sym p) l in
-    let told : outcome e (terminals_of ts) (starting_with (steps_for s) a) a ≡ deep_outcome n = rw (sym k, sym p) o in
-    rw h (deep_at n told (too_deep e s (terminals_of ts) a n halted))
+    rw h (deep_at n (too_deep e s (terminals_of ts) a n halted))
 
 -- some tokens are derived, and nothing in them is too deep
 Sound : Edition → Start → ℕ → List Event → List Terminal → Type 0
@@ -69,11 +68,11 @@ there_is_one ks n lt none = go (slice_get_cases ks n).1
     go (inl h) = none-some h.0 (sym none ∙ h.2)
     go (inr h) = absurd (omega (arith, h.0, lt))
 
--- what is read, where there are more tokens behind it, is refused at the next one as the whole of them
-pub left_over : (e : Edition) (s : Start) (ks : List Terminal) (a n : ℕ) (es : List Event) → IsReading e s ks a n es → n < length ks → IsRefusal e s ks a n
+-- what is read as a file, where there are more tokens behind it, is refused at the next one as the whole of them
+pub left_over : (e : Edition) (ks : List Terminal) (a n : ℕ) (es : List Event) → IsReading e file ks a n es → n < length ks → IsRefusal e file ks a n
 unfolding Sound
-left_over e s ks a n es r lt =
-    let sound : Sound e s a es (r.tokens ++ []) = subst (Sound e s a es) (sym (append-nil r.tokens)) (r.derives, r.shallow) in
+left_over e ks a n es r lt =
+    let sound : Sound e file a es (r.tokens ++ []) = subst (Sound e file a es) (sym (append-nil r.tokens)) (r.derives, r.shallow) in
     record {
       tokens = r.tokens;
       between = r.between;
@@ -81,10 +80,3 @@ left_over e s ks a n es r lt =
       never = r.longest;
       ends = λ fs none d. absurd (there_is_one ks n lt none);
     }
-
--- all tokens are read where none is left
-pub all_read : (ks u : List Terminal) (n : ℕ) → AreBetween ks 0 n u → length ks ≤ n → n ≡ length ks
-all_read ks u n b h = go (ap length b.split ∙ length-append u (drop n ks)) b.size
-  where
-    go : length ks ≡ length u + length (drop n ks) → n ≡ 0 + length u → n ≡ length ks
-    go p q = omega (arith, p, q, h)

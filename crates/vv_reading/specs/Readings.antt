@@ -10,10 +10,9 @@ use Rattle.vv_grammar.specs.declared.edition.Edition.{Edition}
 use Rattle.vv_grammar.specs.declared.event.Event.{Event}
 use Rattle.vv_machine.specs.declared.machine.Stop.{Stop}
 use Rattle.vv_machine.specs.declared.machine.Stop.TheVariants as stop
-use Rattle.vv_machine.specs.Machine.{too_deep, outcome, starting_with}
 use Rattle.vv_grammar.specs.Terminals.{terminals_of}
 use Rattle.vv_grammar.specs.Trees.{Tree, replay}
-use Rattle.vv_grammar_laws.specs.Starts.{Start, steps_for}
+use Rattle.vv_grammar_laws.specs.Starts.{Start}
 use Rattle.vv_grammar_laws.specs.Readings.{IsReading, IsRefusal, IsDeep}
 use Rattle.vv_productions.specs.Readings.{IsRead, IsMisplaced, nowhere}
 
@@ -34,12 +33,10 @@ abbrev pub span_at : List Token → ℕ → Span
 span_at ts n = span_of (slice_get ts (min n (length ts - 1)))
 
 -- Which rule the tokens from number a on break, and where: the ones before token n are the start of something in which nothing has to be too deep, and with it
--- they are the start of nothing; or it is settled that what starts at token n is too deep. Of several such things the machine of the grammar tells which is the
--- first.
+-- they are the start of nothing; or it is settled that what starts at token n is too deep, and nothing before it is. Only one of these holds, of one token.
 pub data IsRefusedAt (e : Edition) (s : Start) (ts : List Token) (a : ℕ) : Refusal → Type 0 where
   misplaced_at : (n : ℕ) → IsMisplaced e s (terminals_of ts) a n → IsRefusal e s (terminals_of ts) a n → IsRefusedAt e s ts a (record { rule = Y1; span = span_at ts n })
-  deep_at : (n : ℕ) → outcome e (terminals_of ts) (starting_with (steps_for s) a) a ≡ too_deep n → IsDeep e s (terminals_of ts) a n
-      → IsRefusedAt e s ts a (record { rule = Y2; span = span_at ts n })
+  deep_at : (n : ℕ) → IsDeep e s (terminals_of ts) a n → IsRefusedAt e s ts a (record { rule = Y2; span = span_at ts n })
 
 -- Why the tokens from number a on are not read. Want of memory says nothing.
 abbrev pub IsNotRead : (e : Edition) (s : Start) (ts : List Token) (a : ℕ) → Fault → Type 0

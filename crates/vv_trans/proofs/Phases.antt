@@ -10,7 +10,7 @@ use Rattle.vv_vlex.specs.Lexical.{Broken, Elements, elements_of}
 use Rattle.vv_vlex_laws.proofs.Cuts.{over_limit, cut_of, only_cut, stuck_of, only_stuck}
 use Rattle.vv_trans.specs.Translation.{most_bytes, Report, element_report, lexing, syntax_report, parsing, gates, report, HasElements, HasSyntax, IsReport, too_long, stuck, unparsed, no_file, second, misplaced, broken, IsAccepted}
 use Rattle.vv_trans.specs.Parsing.{syntax}
-use Rattle.vv_trans.proofs.Texts.{has_syntax, passes, no_text, one_behind}
+use Rattle.vv_trans.proofs.Texts.{has_syntax, passes, no_text, only_text, one_behind}
 use Rattle.vv_trans.proofs.Exact.{gate_told, gate_misplaced, gate_broken, gate_accepted}
 
 ok_err : (ls : List Lexeme) (b : Broken) (e : Elements) → e ≡ Ok ls → e ≡ Err b → ⊥
@@ -113,7 +113,7 @@ parsing_told top files before (file ∷ more) r split all sound e =
 
     here : (HasSyntax file → parsing (length (before ++ (file ∷ []))) more ≡ Some r → IsReport top files r)
         → (o : Option Broken) → syntax file ≡ o → option_or (syntax_report (length before) o) (parsing (length before + 1) more) ≡ Some r → IsReport top files r
-    here later (Some b) is e = subst (IsReport top files) (same_report (record { rule = b.rule; file = length before; at = b.at }) r e) (unparsed before more file b split all sound is own (no_text file b own is))
+    here later (Some b) is e = subst (IsReport top files) (same_report (record { rule = b.rule; file = length before; at = b.at }) r e) (unparsed before more file b split all sound own (no_text file b own is))
     here later None is e = later (has_syntax file own is) (ap (λ (n : ℕ). parsing n more) (length-append before (file ∷ [])) ∙ e)
 
 -- with no report each file is lawful in its syntax
@@ -204,8 +204,8 @@ only_told top files r (too_long before more file split all long) =
     report_by_lexing top files (record { rule = L1; file = length before; at = 0 }) (lexing_broken files before more file (record { rule = L1; at = 0 }) split all (over_limit file long))
 only_told top files r (stuck before more file rule at split all short s) =
     report_by_lexing top files (record { rule = rule; file = length before; at = at }) (lexing_broken files before more file (record { rule = rule; at = at }) split all (only_stuck file at rule short s))
-only_told top files r (unparsed before more file b split all sound is h n) =
-    report_by_parsing top files (record { rule = b.rule; file = length before; at = b.at }) all (parsing_broken files before more file b split sound is)
+only_told top files r (unparsed before more file b split all sound h n) =
+    report_by_parsing top files (record { rule = b.rule; file = length before; at = b.at }) all (parsing_broken files before more file b split sound (only_text file b h n))
 only_told top files r (no_file is) = report_by_gates top files [] is (subst (λ (x : List (List ℕ)). All HasElements x) (sym is) (All-nil HasElements)) (subst (λ (x : List (List ℕ)). All HasSyntax x) (sym is) (All-nil HasSyntax))
 only_told top files r (second file other more is all sound) = report_by_gates top files (file ∷ other ∷ more) is all sound
 only_told top files r (misplaced file at is h k m) = report_by_gates top files (file ∷ []) is (all_one file files is h) (all_lawful file files is k) ∙ gate_misplaced top file at m

@@ -14,7 +14,10 @@ use Rattle.vv_grammar_laws.proofs.Driven.{Told, outcome-told, driven_reads, driv
 use Rattle.vv_grammar_laws.proofs.Deep.{deep_in}
 use Rattle.vv_grammar_laws.proofs.Ends.{never_refused}
 use Rattle.vv_grammar_laws.proofs.Back.{same_derivation}
-use Rattle.vv_grammar_laws.specs.Depths.{outermost, IsTooDeepAt}
+use Rattle.vv_grammar_laws.specs.Depths.{IsTooDeepAt}
+use Rattle.vv_grammar_laws.proofs.Plain.{head}
+use Rattle.vv_grammar_laws.proofs.Bridge.{head-from}
+use Rattle.vv_grammar_laws.proofs.Verdicts.{one_misplaced, one_deep, apart, not_deep, not_misplaced}
 use Rattle.vv_productions.proofs.Readings.{misplaced-of}
 use Rattle.vv_productions.proofs.Main.{admits}
 use Rattle.vv_vlex_laws.specs.Cut.{IsCutOf}
@@ -38,7 +41,7 @@ read_text bytes ls cut (reads es b) h e =
     let r = driven_reads edition.Vhdl93 whole_file (terminals_of_elements ls) 0 b es h in
     let none : drop b (terminals_of_elements ls) ≡ [] = all_derived bytes ls cut edition.Vhdl93 r.tokens (drop b (terminals_of_elements ls)) es r.derives r.between.split in
     let all : r.tokens ≡ terminals_of_elements ls = sym (r.between.split ∙ ap (λ (x : List Terminal). r.tokens ++ x) none ∙ append-nil r.tokens) in
-    let d = same_derivation edition.Vhdl93 (steps_for whole_file) (steps_for whole_file) r.tokens (terminals_of_elements ls) es refl all r.derives (outermost (steps_for whole_file) 0) 0 in
+    let d = same_derivation edition.Vhdl93 (steps_for whole_file) (steps_for whole_file) r.tokens (terminals_of_elements ls) es refl all r.derives (starting_with (steps_for whole_file) 0) 0 in
     record {
       events = es;
       matches = admits edition.Vhdl93 whole_file (terminals_of_elements ls) es d.0;
@@ -61,6 +64,31 @@ refused_text ls b (misplaced n) h e =
 refused_text ls b (too_deep n) h e =
     subst (IsNoText ls) (same_broken (record { rule = Y2; at = offset_of (slice_get ls n) }) b e) (deep_at n (driven_deep edition.Vhdl93 whole_file (terminals_of_elements ls) 0 n h))
 
+-- what says that elements are no text says what the machine tells of them
+text_refused : (bytes : List ℕ) (ls : List Lexeme) → IsCutOf bytes ls → (b : Broken) → IsNoText ls b → (o : Outcome) → parsed (terminals_of_elements ls) ≡ o → judged ls o ≡ Some b
+text_refused bytes ls cut _ (misplaced_at n m r) (reads es b) h =
+    let ts = terminals_of_elements ls in
+    let d = driven_reads edition.Vhdl93 whole_file ts 0 b es h in
+    let none : drop b ts ≡ [] = all_derived bytes ls cut edition.Vhdl93 d.tokens (drop b ts) es d.derives d.between.split in
+    absurd (not_misplaced edition.Vhdl93 whole_file ts 0 n b es (sym (head-from ts b) ∙ ap head none) d r)
+text_refused bytes ls cut _ (misplaced_at n m r) (misplaced k) h =
+    let ts = terminals_of_elements ls in
+    ap (λ (i : ℕ). Some (record { rule = Y1; at = offset_of (slice_get ls i) }))
+    (one_misplaced edition.Vhdl93 whole_file ts 0 k n (driven_refuses edition.Vhdl93 whole_file ts 0 k h) r)
+text_refused bytes ls cut _ (misplaced_at n m r) (too_deep k) h =
+    let ts = terminals_of_elements ls in
+    absurd (apart edition.Vhdl93 whole_file ts 0 k n (driven_deep edition.Vhdl93 whole_file ts 0 k h) r)
+text_refused bytes ls cut _ (deep_at n d) (reads es b) h =
+    let ts = terminals_of_elements ls in
+    absurd (not_deep edition.Vhdl93 whole_file ts 0 n b es (driven_reads edition.Vhdl93 whole_file ts 0 b es h) d)
+text_refused bytes ls cut _ (deep_at n d) (misplaced k) h =
+    let ts = terminals_of_elements ls in
+    absurd (apart edition.Vhdl93 whole_file ts 0 n k d (driven_refuses edition.Vhdl93 whole_file ts 0 k h))
+text_refused bytes ls cut _ (deep_at n d) (too_deep k) h =
+    let ts = terminals_of_elements ls in
+    ap (λ (i : ℕ). Some (record { rule = Y2; at = offset_of (slice_get ls i) }))
+    (one_deep edition.Vhdl93 whole_file ts 0 k n (driven_deep edition.Vhdl93 whole_file ts 0 k h) d)
+
 judged_by : (file : List ℕ) (h : HasElements file) → syntax file ≡ judged h.elements (parsed (terminals_of_elements h.elements))
 unfolding syntax
 judged_by file h = ap judged_of (only_cut file h.elements h.short h.cut)
@@ -79,6 +107,10 @@ passes file h =
 -- a file that is refused is none
 pub no_text : (file : List ℕ) (b : Broken) (h : HasElements file) → syntax file ≡ Some b → IsNoText h.elements b
 no_text file b h e = refused_text h.elements b (parsed (terminals_of_elements h.elements)) refl (sym (judged_by file h) ∙ e)
+
+-- a file that is none is refused so
+pub only_text : (file : List ℕ) (b : Broken) (h : HasElements file) → IsNoText h.elements b → syntax file ≡ Some b
+only_text file b h n = judged_by file h ∙ text_refused file h.elements h.cut b n (parsed (terminals_of_elements h.elements)) refl
 
 -- the file behind those that come before it
 pub one_behind : (before more : List (List ℕ)) (file : List ℕ) → All HasElements (before ++ (file ∷ more)) → HasElements file

@@ -21,7 +21,7 @@ pub record IsText (elements : List Lexeme) : Type 0 where
   pub shallow : IsShallow edition.Vhdl93 file (terminals_of_elements elements) events derives 0
 
 -- Which rule elements break that are no text, and where: with an element the ones before it are the start of no text any more, and nothing before it has to be
--- too deep; or it is settled that what starts at an element is too deep.
+-- too deep; or it is settled that what starts at an element is too deep, and nothing before it is. Only one of these holds, of one element.
 pub data IsNoText (elements : List Lexeme) : Broken → Type 0 where
   misplaced_at : (n : ℕ) → IsMisplaced edition.Vhdl93 file (terminals_of_elements elements) 0 n → IsRefusal edition.Vhdl93 file (terminals_of_elements elements) 0 n
       → IsNoText elements (record { rule = Y1; at = offset_of (slice_get elements n) })

@@ -140,7 +140,7 @@ pub data IsReport (top : List ℕ) (files : List (List ℕ)) : Report → Type 0
   stuck : (before more : List (List ℕ)) (file : List ℕ) (rule : Rule) (at : ℕ) → files ≡ before ++ (file ∷ more) → All HasElements before
       → length file ≤ most_bytes → IsStuckAt file at rule → IsReport top files (record { rule = rule; file = length before; at = at })
   unparsed : (before more : List (List ℕ)) (file : List ℕ) (b : Broken) → files ≡ before ++ (file ∷ more) → All HasElements files → All HasSyntax before
-      → syntax file ≡ Some b → (h : HasElements file) → IsNoText h.elements b → IsReport top files (record { rule = b.rule; file = length before; at = b.at })
+      → (h : HasElements file) → IsNoText h.elements b → IsReport top files (record { rule = b.rule; file = length before; at = b.at })
   no_file : files ≡ [] → IsReport top files (record { rule = Y1; file = 0; at = 0 })
   second : (file other : List ℕ) (more : List (List ℕ)) → files ≡ file ∷ other ∷ more → All HasElements files → All HasSyntax files
       → IsReport top files (record { rule = Y1; file = 1; at = 0 })

@@ -16,4 +16,4 @@ returns-in-Ok-clause-read c = λ s p.
 pub returns-clause-refused : goal.returns-clause-refused
 returns-clause-refused c = λ s p.
     not_read c.args.edition s c.args.tokens.now c.as_slice.result.now c.args.steps.now c.args.at c.in-Err.stop c.fault_of.result
-    (c.as_slice.ensures.value ∙ c.in_ok-kinds.ensures) p c.in-Err.ensures.stopped c.in-Err.ensures.halts c.fault_of.ensures
+    (c.as_slice.ensures.value ∙ c.in_ok-kinds.ensures) p c.in-Err.ensures.halts c.fault_of.ensures
