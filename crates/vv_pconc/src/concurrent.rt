@@ -4,7 +4,6 @@ ghost use Rattle.std.specs.Prelude.{◌≡◌, IfOk};
 ghost use Rattle.vv_nodes.specs.Nodes.{node_tree};
 ghost use Rattle.vv_tree.specs.View as v;
 
-use crate::instance::instance;
 use bumpalo::Bump;
 use bumpalo::collections::into_bump_slice;
 use std::alloc::Global;
@@ -15,6 +14,7 @@ use vv_nodes::node::{Node, NodeKind};
 use vv_nodes::values::misfit;
 use vv_pdecl::declaration::declarations;
 use vv_pexpr::expression::{choices, expr, exprs};
+use vv_pinstance::instance::instance;
 use vv_pseq::statement::{assertion, statements};
 use vv_psubtype::subtype::discrete_range;
 use vv_tree::concurrent::{Conc, ConcKind, Selection, Sensitivity, Waveform};

@@ -2,4 +2,3 @@
 #![tactic(auto)]
 
 pub mod concurrent;
-pub mod instance;
