@@ -5,11 +5,8 @@ use Rattle.vv_grammar.specs.declared.terminal.Terminal.{Terminal}
 use Rattle.vv_grammar.specs.Table.{Choice}
 use Rattle.vv_grammar.specs.Terminals.{same, contains}
 use Rattle.vv_grammar_laws.specs.Derivations.{IsAmong, first as here, later}
-use Rattle.vv_productions.specs.Phrases.{Phrase}
-use Rattle.vv_productions.proofs.Equal.{eq_all, eq_all-is, same-is}
-
-abbrev pub Way : Type 0
-Way = List Phrase
+use Rattle.vv_productions.proofs.Equal.{same-is}
+use Rattle.vv_productions.proofs.Items.{Way, eq_all, eq_all-is}
 
 pub data In : Way → List Way → Type 0 where
   at_head : (x : Way) (xs : List Way) → In x (x ∷ xs)

@@ -8,15 +8,18 @@ use Rattle.vv_grammar.specs.declared.step.Step.TheVariants as step
 use Rattle.vv_grammar.specs.declared.step.Take.{Take}
 use Rattle.vv_grammar.specs.declared.step.Take.TheVariants as take
 use Rattle.vv_grammar.specs.declared.terminal.Terminal.{Terminal}
-use Rattle.vv_grammar.specs.Table.{Choice, alternatives, otherwise}
+use Rattle.vv_grammar.specs.declared.step.Level.{Level}
+use Rattle.vv_grammar.specs.declared.step.Level.TheVariants as level
+use Rattle.vv_grammar.specs.Table.{Choice, alternatives, otherwise, level_of}
 use Rattle.vv_grammar.specs.Terminals.{contains}
 use Rattle.vv_grammar_laws.proofs.Codes.{codes, within}
 use Rattle.vv_grammar_laws.proofs.Check.{firsts}
 use Rattle.vv_grammar_laws.proofs.Sets.{follow}
-use Rattle.vv_productions.specs.Phrases.{skip, keep}
-use Rattle.vv_productions.proofs.Among.{Way, member, some, every, some_choice, every_choice, every_terminal}
-use Rattle.vv_productions.proofs.Equal.{eq_all}
+use Rattle.vv_productions.specs.Depths.{an_expression, a_statement}
+use Rattle.vv_productions.proofs.Items.{skip, keep, close, Way, eq_all}
+use Rattle.vv_productions.proofs.Among.{member, some, every, some_choice, every_choice, every_terminal}
 use Rattle.vv_productions.proofs.Traces.{expand, is_open}
+use Rattle.vv_productions.proofs.Nested.{began_behind}
 use Rattle.vv_productions.proofs.Meanings.{ways}
 use Rattle.vv_productions.proofs.Steps.{listed, known}
 
@@ -27,7 +30,23 @@ depth = 60
 -- a way becomes this one as its first phrases are opened
 abbrev pub reaches : Edition → ℕ → Way → Way → Bool
 reaches e zero x m = eq_all m x
-reaches e (suc n) x m = let r = some (λ g. reaches e n x g) (expand e m) in eq_all m x || r
+reaches e (suc n) x m = let r = some (λ g. reaches e n x g) (expand e 0 m) in eq_all m x || r
+
+-- the end of what starts at a place: here, or where the production round it began
+abbrev pub level_close : Level → Way
+level_close level.Same = []
+level_close level.Expression = close an_expression 0 ∷ []
+level_close level.ExpressionBehind = close an_expression 1 ∷ []
+level_close level.Statement = close a_statement 0 ∷ []
+level_close level.StatementBehind = close a_statement 1 ∷ []
+
+abbrev pub all_ended : Way → List Way → List Way
+all_ended y [] = []
+all_ended y (x ∷ xs) = (x ++ y) ∷ all_ended y xs
+
+-- what an alternative of a place stands for
+abbrev pub turned_ways : Edition → Place → Choice → List Way
+turned_ways e p c = all_ended (level_close (level_of p)) (listed e (began_behind c.take 0 1) c.steps)
 
 abbrev pub taken : Take → Terminal → Way → Way
 taken take.Keep w x = keep w ∷ x
@@ -35,14 +54,14 @@ taken take.Skip w x = skip w ∷ x
 taken take.Look w x = x
 
 abbrev pub is_reached : Edition → Place → Way → Bool
-is_reached e p x = some (λ m. reaches e depth x m) (ways e p)
+is_reached e p x = some (λ m. reaches e depth x m) (ways e 1 p)
 
 abbrev pub choice_reached : Edition → Place → Choice → Bool
-choice_reached e p c = every (λ x. every_terminal (λ w. is_reached e p (taken c.take w x)) c.on) (listed e c.steps)
+choice_reached e p c = every (λ x. every_terminal (λ w. is_reached e p (taken c.take w x)) c.on) (turned_ways e p c)
 
 abbrev pub else_reached : Edition → Place → Option (List Step) → Bool
 else_reached e p None = true
-else_reached e p (Some ss) = every (λ x. is_reached e p x) (listed e ss)
+else_reached e p (Some ss) = every (λ x. is_reached e p x) (listed e 1 ss)
 
 abbrev pub else_known : Option (List Step) → Bool
 else_known None = true
@@ -69,28 +88,28 @@ is_look _ = false
 -- what the table admits else
 abbrev pub passes : Edition → Option (List Step) → Way → Bool
 passes e None f = false
-passes e (Some ss) f = member f (listed e ss)
+passes e (Some ss) f = member f (listed e 1 ss)
 
 -- an alternative takes the first token, or the token can't stand here
-abbrev pub takes_it : Edition → List Choice → List Terminal → Way → Bool
-takes_it e cs without (skip w ∷ x) = let r = some_choice (λ c. let m = member x (listed e c.steps) in (is_skip c.take && contains c.on w) && m) cs in contains without w || r
-takes_it e cs without (keep w ∷ x) = let r = some_choice (λ c. let m = member x (listed e c.steps) in (is_keep c.take && contains c.on w) && m) cs in contains without w || r
-takes_it e cs without _ = false
+abbrev pub takes_it : Edition → Place → List Choice → List Terminal → Way → Bool
+takes_it e p cs without (skip w ∷ x) = let r = some_choice (λ c. let m = member x (turned_ways e p c) in (is_skip c.take && contains c.on w) && m) cs in contains without w || r
+takes_it e p cs without (keep w ∷ x) = let r = some_choice (λ c. let m = member x (turned_ways e p c) in (is_keep c.take && contains c.on w) && m) cs in contains without w || r
+takes_it e p cs without _ = false
 
 -- an alternative that takes without token has all that can come first
 abbrev pub looks_at_all : Edition → Place → List Choice → Way → Bool
-looks_at_all e p cs f = some_choice (λ c. let m = member f (listed e c.steps) in let w = within (firsts c.steps (follow p)) (codes c.on) && m in is_look c.take && w) cs
+looks_at_all e p cs f = some_choice (λ c. let m = member f (turned_ways e p c) in let w = within (firsts c.steps (follow p)) (codes c.on) && m in is_look c.take && w) cs
 
 -- each way goes on as the table does: what is opened further doesn't start with these tokens
 abbrev pub covers : Edition → Place → ℕ → List Terminal → Way → Bool
 covers e p zero without f = false
 covers e p (suc n) without f =
-    let more = every (λ g. covers e p n without g) (expand e f) in
-    let split = some_choice (λ c. let r = every (λ g. covers e p n (c.on ++ without) g) (expand e f) in let m = member f (listed e c.steps) && r in is_look c.take && m) (alternatives e p) in
+    let more = every (λ g. covers e p n without g) (expand e 0 f) in
+    let split = some_choice (λ c. let r = every (λ g. covers e p n (c.on ++ without) g) (expand e 0 f) in let m = member f (turned_ways e p c) && r in is_look c.take && m) (alternatives e p) in
     let either = split || more in
     let opened = is_open f && either in
     let all = looks_at_all e p (alternatives e p) f || opened in
-    let token = takes_it e (alternatives e p) without f || all in
+    let token = takes_it e p (alternatives e p) without f || all in
     passes e (otherwise p) f || token
 
 -- How many steps that take without token and make nothing can follow on one another at a place.
@@ -147,4 +166,4 @@ else_leads p (Some ss) = nat_le (lead ss) (rank p)
 abbrev pub is_covered : Edition → Place → Bool
 is_covered e p =
     (every_choice (λ c. choice_leads p c) (alternatives e p) && else_leads p (otherwise p))
-    && every (λ m. covers e p depth [] m) (ways e p)
+    && every (λ m. covers e p depth [] m) (ways e 1 p)

@@ -1,5 +1,5 @@
--- What steps stand for is derived where it matches.
-use Rattle.std.proofs.Common.{◌≡◌, ◌⊎◌, inl, inr, ℕ, zero, suc, ◌+◌, ◌<◌, ◌≤◌, nat_le, Bool, true, false, not, ◌&&◌, ◌||◌, List, [], ◌∷◌, ◌++◌, Option, Some, None, refl, sym, ap, ◌∙◌, subst, append_assoc, arith}
+-- What steps stand for is derived where it matches, and the same ends in it.
+use Rattle.std.proofs.Common.{◌≡◌, ◌⊎◌, inl, inr, ℕ, zero, suc, ◌+◌, ◌<◌, ◌≤◌, nat_le, Bool, true, false, not, ◌&&◌, ◌||◌, List, [], ◌∷◌, ◌++◌, length, Option, Some, None, refl, sym, ap, ◌∙◌, subst, append_assoc, arith}
 use Rattle.std.proofs.lemmas.Bool.{true≢false, false≢true, and_parts, and_from, or_cases, cases_Bool, leb-true}
 use Rattle.vv_grammar.specs.declared.edition.Edition.{Edition}
 use Rattle.vv_grammar.specs.declared.event.Event.{Event}
@@ -12,30 +12,37 @@ use Rattle.vv_grammar.specs.declared.step.Take.{Take}
 use Rattle.vv_grammar.specs.declared.step.Take.TheVariants as take
 use Rattle.vv_grammar.specs.declared.terminal.Terminal.{Terminal}
 use Rattle.vv_grammar.specs.Terminals.{same, contains}
-use Rattle.vv_grammar.specs.Table.{Choice, alternatives, otherwise}
-use Rattle.vv_grammar_laws.specs.Derivations.{IsAmong, left, noted, Derives, done, make, skip, keep, call, pass, stop, more}
+use Rattle.vv_grammar.specs.declared.step.Level.{Level}
+use Rattle.vv_grammar.specs.declared.step.Level.TheVariants as level
+use Rattle.vv_grammar.specs.Table.{Choice, alternatives, otherwise, level_of}
+use Rattle.vv_grammar_laws.specs.Derivations.{IsAmong, left, noted, Derives}
 use Rattle.vv_grammar_laws.proofs.Codes.{code, codes, has, within, within-has}
 use Rattle.vv_grammar_laws.proofs.Check.{firsts, nulls}
 use Rattle.vv_grammar_laws.proofs.Sets.{follow}
 use Rattle.vv_grammar_laws.proofs.Followed.{Within, Good, starts, firsts-mono, firsts-append, good-append, is_else, is_checked, among-fits}
 use Rattle.vv_grammar_laws.proofs.Seals.{is_closed, looks, Closed, closed-append, choice-seals, pass-seals, nulls-parts, nulled}
 use Rattle.vv_grammar_laws.proofs.Words.{same-self}
-use Rattle.vv_productions.specs.Phrases as p
-use Rattle.vv_productions.specs.Phrases.{Phrase, ◌▸◌, ◌or◌, option, many}
-use Rattle.vv_productions.proofs.Among.{Way, In, at_head, behind, member, member-in, every, every-in, every_choice, every-choice, some_choice, some-choice}
+use Rattle.vv_productions.specs.Depths.{Kind, an_expression, a_statement}
+use Rattle.vv_productions.proofs.Items as p
+use Rattle.vv_productions.proofs.Items.{Way, flat, many, put, put-append, at_place}
+use Rattle.vv_productions.proofs.Among.{In, at_head, behind, member, member-in, every, every-in, every_choice, every-choice, some_choice, some-choice}
 use Rattle.vv_productions.proofs.OneCode.{has-contains}
-use Rattle.vv_productions.proofs.Traces.{flat, expand, is_open, all_before, expand-append, open-append, Trace, Opened, o_here, o_there, opens, AfterToken, after-skip, after-keep, after-make, at-end}
+use Rattle.vv_productions.proofs.Late.{free_step}
+use Rattle.vv_productions.proofs.Traces.{End, ended, expand, is_open, all_before, expand-append, open-append, Trace, Opened, o_here, o_there, opens, AfterToken, after-skip, after-keep, after-make, after-close, at-end}
+use Rattle.vv_productions.proofs.Nested.{Nest, at, end, has_late, bare, pushed, level_end, began_behind, entered, bare-pushed, bare-entered, Nested, n_done, n_end, n_make, n_skip, n_keep, n_call, n_pass, n_stop, n_more, derives-of}
 use Rattle.vv_productions.proofs.Meanings.{ways}
-use Rattle.vv_productions.proofs.Steps.{is_part, part, repeated, Means, m_end, m_make, m_skip, m_keep, m_call, m_many, listed, listed-means, means-append}
-use Rattle.vv_productions.proofs.Check.{depth, is_keep, is_skip, is_look, passes, takes_it, looks_at_all, covers, rank, lead, choice_leads, else_leads}
-use Rattle.vv_productions.proofs.Checked.{all-take, nothing-else, single}
+use Rattle.vv_productions.proofs.Steps.{is_part, part, repeated, Means, m_nothing, m_end, m_make, m_skip, m_keep, m_call, m_many, listed, listed-means}
+use Rattle.vv_productions.proofs.Check.{depth, level_close, all_ended, turned_ways, is_keep, is_skip, is_look, passes, takes_it, looks_at_all, covers, rank, lead, choice_leads, else_leads}
+use Rattle.vv_productions.proofs.Checked.{all-take, nothing-else, single, put-way, way-put}
+use Rattle.vv_productions.proofs.Guards.{Guarded, guarded-entered, guarded-else, same-round}
+use Rattle.vv_productions.proofs.Sound.{began-at}
 use Rattle.vv_productions.proofs.Covered.{covered}
 
 -- what the check says of a place
 covered-parts : (e : Edition) (q : Place)
-    → (every_choice (λ c. choice_leads q c) (alternatives e q) ≡ true) × (else_leads q (otherwise q) ≡ true) × (every (λ m. covers e q depth [] m) (ways e q) ≡ true)
+    → (every_choice (λ c. choice_leads q c) (alternatives e q) ≡ true) × (else_leads q (otherwise q) ≡ true) × (every (λ m. covers e q depth [] m) (ways e 1 q) ≡ true)
 covered-parts e q =
-    let h = and_parts (every_choice (λ c. choice_leads q c) (alternatives e q) && else_leads q (otherwise q)) (every (λ m. covers e q depth [] m) (ways e q)) (covered e q) in
+    let h = and_parts (every_choice (λ c. choice_leads q c) (alternatives e q) && else_leads q (otherwise q)) (every (λ m. covers e q depth [] m) (ways e 1 q)) (covered e q) in
     let k = and_parts (every_choice (λ c. choice_leads q c) (alternatives e q)) (else_leads q (otherwise q)) h.0 in
     (k.0, k.1, h.1)
 
@@ -75,21 +82,22 @@ is-look take.Look h = refl
 
 -- of shorter traces it is known
 abbrev pub Less : Edition → ℕ → Type 0
-Less e n = (m : ℕ) (K : List Step) (s : List Phrase) (u : List Terminal) (es : List Event)
-    → m < n → Good K → Closed K → Means e K s → Trace e m s u es → Derives e K u es
+Less e n = (m : ℕ) (J : List Nest) (s : Way) (u : List Terminal) (es : List Event) (os : List End)
+    → m < n → Good (bare J) → Closed (bare J) → Guarded J → Means e J s → Trace e m s u es os → Nested e J u es os
 
 -- of traces without longer, where fewer steps can follow on one another that make nothing, it is known
 abbrev pub Still : Edition → ℕ → ℕ → Type 0
-Still e n w = (m : ℕ) (K : List Step) (s : List Phrase) (u : List Terminal) (es : List Event)
-    → m ≤ n → lead K ≤ w → Good K → Closed K → Means e K s → Trace e m s u es → Derives e K u es
+Still e n w = (m : ℕ) (J : List Nest) (s : Way) (u : List Terminal) (es : List Event) (os : List End)
+    → m ≤ n → lead (bare J) ≤ w → Good (bare J) → Closed (bare J) → Guarded J → Means e J s → Trace e m s u es os → Nested e J u es os
 
 -- before a call of a place
-pub record At (e : Edition) (n : ℕ) (q : Place) (K : List Step) (y : List Phrase) : Type 0 where
-  pub means : Means e K y
-  pub good : Good (step.Call q ∷ K)
-  pub closed : Closed (step.Call q ∷ K)
+pub record At (e : Edition) (n : ℕ) (q : Place) (b : ℕ) (J : List Nest) (y : Way) : Type 0 where
+  pub means : Means e J y
+  pub good : Good (step.Call q ∷ bare J)
+  pub closed : Closed (step.Call q ∷ bare J)
+  pub guarded : Guarded (at (step.Call q) b ∷ J)
   pub less : Less e n
-  pub still : Still e n (rank q + lead K)
+  pub still : Still e n (rank q + lead (bare J))
 
 shut : (b n : Bool) → (b ≡ true → n ≡ true → ⊥) → n ≡ true → not b ≡ true
 shut true n h k = absurd (h refl k)
@@ -122,82 +130,134 @@ not-append (x ∷ xs) ys t h k = go (same x t) h (λ i. not-append xs ys t i k)
     go true h f = absurd (true≢false h)
     go false h f = f h
 
-module _ (e : Edition) (n : ℕ) (q : Place) (K : List Step) (y : List Phrase) (a : At e n q K y) where
+-- the ends behind the steps of an alternative
+level-means : (e : Edition) (l : Level) (h b : ℕ) (J : List Nest) (y : Way) → Means e J y → Means e (level_end l h b J) (put h b (level_close l) ++ y)
+level-means e level.Same h b J y m = m
+level-means e level.Expression h b J y m = m_end an_expression h J y m
+level-means e level.ExpressionBehind h b J y m = m_end an_expression b J y m
+level-means e level.Statement h b J y m = m_end a_statement h J y m
+level-means e level.StatementBehind h b J y m = m_end a_statement b J y m
+
+of-ended : (y x : Way) (xs : List Way) → In x (all_ended y xs) → (z : Way) × In z xs × (z ++ y ≡ x)
+of-ended y x [] i = elim i [ ]
+of-ended y _ (z ∷ xs) (at_head _ _) = (z, at_head z xs, refl)
+of-ended y x (z ∷ xs) (behind _ _ _ i) = let r = of-ended y x xs i in (r.0, behind r.0 z xs r.1, r.2)
+
+-- what an alternative stands for
+turn-means : (e : Edition) (q : Place) (c : Choice) (h b : ℕ) (J : List Nest) (x y : Way) → In x (turned_ways e q c) → Means e J y → Means e (entered q c h b J) (put h b x ++ y)
+turn-means e q c h b J x y i m =
+    let l = level_close (level_of q) in
+    let L = level_end (level_of q) h b J in
+    let k = began_behind c.take 0 1 in
+    let v = of-ended l x (listed e k c.steps) i in
+    let r = listed-means e h k b (λ p z j. put-way e h b k p z j) c.steps L v.0 (put h b l ++ y) v.1 (level-means e (level_of q) h b J y m) in
+    subst (Means e (entered q c h b J))
+    (sym (append_assoc (put h b v.0) (put h b l) y) ∙ ap (λ (z : Way). z ++ y) (sym (put-append h b v.0 l)) ∙ ap (λ (z : Way). put h b z ++ y) v.2)
+    (subst (λ (z : ℕ). Means e (pushed c.steps z L) (put h b v.0 ++ (put h b l ++ y))) (began-at c.take h b) r)
+
+good-entered : (e : Edition) (q : Place) (c : Choice) (h b : ℕ) (J : List Nest) → IsAmong c (alternatives e q) → Good (step.Call q ∷ bare J) → Good (bare (entered q c h b J))
+good-entered e q c h b J a g = subst Good (sym (bare-entered q c h b J)) (call-good e q c (bare J) a g.0 g.1)
+
+closed-entered : (e : Edition) (q : Place) (c : Choice) (h b : ℕ) (J : List Nest) → IsAmong c (alternatives e q) → Closed (step.Call q ∷ bare J) → Closed (bare (entered q c h b J))
+closed-entered e q c h b J a x = subst Closed (sym (bare-entered q c h b J)) (closed-choice e q c (bare J) a x)
+
+lead-entered : (q : Place) (c : Choice) (h b : ℕ) (J : List Nest) → lead (bare (entered q c h b J)) ≤ lead c.steps + lead (bare J)
+lead-entered q c h b J = subst (λ (z : List Step). lead z ≤ lead c.steps + lead (bare J)) (sym (bare-entered q c h b J)) (lead-append c.steps (bare J))
+
+module _ (e : Edition) (n : ℕ) (q : Place) (b : ℕ) (J : List Nest) (y : Way) (a : At e n q b J y) where
+  abbrev Goal : List Terminal → List Event → List End → Type 0
+  Goal u es os = Nested e (at (step.Call q) b ∷ J) u es os
+
+  -- before so many tokens
+  abbrev Of : ℕ → Way → List Terminal → List Event → List End → Type 0
+  Of m f u es os = Trace e m (put (length u) b f ++ y) u es os
+
   -- an alternative takes the first token
-  turn : (k : Take) (f : Event) (c : Choice) (w : Terminal) (x : Way) (u : List Terminal) (es : List Event)
+  turn : (k : Take) (f : Event) (c : Choice) (w : Terminal) (x : Way) (u : List Terminal) (es : List Event) (os : List End)
       → ((t : Terminal) (v : List Terminal) → left k t v ≡ v) → noted k ≡ (f ∷ []) → c.take ≡ k
-      → IsAmong c (alternatives e q) → contains c.on w ≡ true → In x (listed e c.steps) → (m : ℕ) → m ≤ n → AfterToken e m w f (x ++ y) u es → Derives e (step.Call q ∷ K) u es
-  turn k f c w x u es v z i j h b m l r =
-      let d : Derives e (c.steps ++ K) r.rest r.others =
-      a.less r.size (c.steps ++ K) (x ++ y) r.rest r.others (below r.size m r.less l) (call-good e q c K j a.good.0 a.good.1) (closed-choice e q c K j a.closed)
-      (means-append e c.steps K x y (listed-means e c.steps x b) a.means) r.trace in
-      let g : Derives e (step.Call q ∷ K) (r.token ∷ r.rest) (noted c.take ++ r.others) =
-      call q c r.token K r.rest r.others j (subst (λ (t : Terminal). contains c.on t ≡ true) r.is h)
-      (subst (λ (us : List Terminal). Derives e (c.steps ++ K) us r.others) (sym (ap (λ (k : Take). left k r.token r.rest) i ∙ v r.token r.rest)) d) in
-      subst (λ (us : List Terminal). Derives e (step.Call q ∷ K) us es) (sym r.tokens)
-      (subst (λ (fs : List Event). Derives e (step.Call q ∷ K) (r.token ∷ r.rest) fs) (ap (λ (k : Take). noted k ++ r.others) i ∙ ap (λ (fs : List Event). fs ++ r.others) z ∙ sym r.events) g)
+      → IsAmong c (alternatives e q) → contains c.on w ≡ true → In x (turned_ways e q c) → (m : ℕ) → m ≤ n → AfterToken e m w f (put (length u) b x ++ y) u es os → Goal u es os
+  turn k f c w x u es os v z i j h i' m l r =
+      let t = r.token in
+      let len = length (t ∷ r.rest) in
+      let same : length u ≡ len = ap (λ (us : List Terminal). length us) r.tokens in
+      let M = entered q c len b J in
+      let tr : Trace e r.size (put len b x ++ y) r.rest r.others os = subst (λ (o : ℕ). Trace e r.size (put o b x ++ y) r.rest r.others os) same r.trace in
+      let d : Nested e M r.rest r.others os =
+      a.less r.size M (put len b x ++ y) r.rest r.others os (below r.size m r.less l) (good-entered e q c len b J j a.good) (closed-entered e q c len b J j a.closed)
+      (guarded-entered e q c len b J j a.guarded.0 a.guarded.1)
+      (turn-means e q c len b J x y i' a.means) tr in
+      let g : Goal (t ∷ r.rest) (noted c.take ++ r.others) os =
+      n_call q c t b J r.rest r.others os j (subst (λ (t : Terminal). contains c.on t ≡ true) r.is h)
+      (subst (λ (us : List Terminal). Nested e M us r.others os) (sym (ap (λ (k : Take). left k t r.rest) i ∙ v t r.rest)) d) in
+      subst (λ (us : List Terminal). Goal us es os) (sym r.tokens)
+      (subst (λ (fs : List Event). Goal (t ∷ r.rest) fs os) (ap (λ (k : Take). noted k ++ r.others) i ∙ ap (λ (fs : List Event). fs ++ r.others) z ∙ sym r.events) g)
     where
       below : (i j : ℕ) → i < j → j ≤ n → i < n
       below i j h k = omega arith
 
-  excluded : (without : List Terminal) (w : Terminal) (f : Event) (x : List Phrase) (u : List Terminal) (es : List Event) (m : ℕ)
-      → contains without w ≡ true → NotFirst without u → AfterToken e m w f x u es → ⊥
-  excluded without w f x u es m h o r =
+  excluded : (without : List Terminal) (w : Terminal) (f : Event) (x : Way) (u : List Terminal) (es : List Event) (os : List End) (m : ℕ)
+      → contains without w ≡ true → NotFirst without u → AfterToken e m w f x u es os → ⊥
+  excluded without w f x u es os m h o r =
       let k : contains without r.token ≡ false = subst (NotFirst without) r.tokens o in
       true≢false (sym h ∙ ap (λ (t : Terminal). contains without t) r.is ∙ k)
 
-  by-token : (without : List Terminal) (f : Way) (m : ℕ) (u : List Terminal) (es : List Event)
-      → takes_it e (alternatives e q) without f ≡ true → m ≤ n → NotFirst without u → Trace e m (f ++ y) u es → Derives e (step.Call q ∷ K) u es
-  by-token without (p.skip w ∷ x) m u es h l o r =
-      elim (or_cases (contains without w) (some_choice (λ c. (is_skip c.take && contains c.on w) && member x (listed e c.steps)) (alternatives e q)) h) [
-        | inl i ↦ absurd (excluded without w event.Skip (x ++ y) u es m i o (after-skip e m w (x ++ y) u es r))
+  by-token : (without : List Terminal) (f : Way) (m : ℕ) (u : List Terminal) (es : List Event) (os : List End)
+      → takes_it e q (alternatives e q) without f ≡ true → m ≤ n → NotFirst without u → Of m f u es os → Goal u es os
+  by-token without (p.skip w ∷ x) m u es os h l o r =
+      elim (or_cases (contains without w) (some_choice (λ c. (is_skip c.take && contains c.on w) && member x (turned_ways e q c)) (alternatives e q)) h) [
+        | inl i ↦ absurd (excluded without w event.Skip (put (length u) b x ++ y) u es os m i o (after-skip e m w (put (length u) b x ++ y) u es os r))
         | inr i ↦
-            let c = some-choice (λ c. (is_skip c.take && contains c.on w) && member x (listed e c.steps)) (alternatives e q) i in
-            let b = and_parts (is_skip c.choice.take && contains c.choice.on w) (member x (listed e c.choice.steps)) c.holds in
-            let d = and_parts (is_skip c.choice.take) (contains c.choice.on w) b.0 in
-            turn take.Skip event.Skip c.choice w x u es (λ t v. refl) refl (is-skip c.choice.take d.0) c.among d.1 (member-in x (listed e c.choice.steps) b.1) m l
-            (after-skip e m w (x ++ y) u es r)
+            let c = some-choice (λ c. (is_skip c.take && contains c.on w) && member x (turned_ways e q c)) (alternatives e q) i in
+            let k = and_parts (is_skip c.choice.take && contains c.choice.on w) (member x (turned_ways e q c.choice)) c.holds in
+            let d = and_parts (is_skip c.choice.take) (contains c.choice.on w) k.0 in
+            turn take.Skip event.Skip c.choice w x u es os (λ t v. refl) refl (is-skip c.choice.take d.0) c.among d.1 (member-in x (turned_ways e q c.choice) k.1) m l
+            (after-skip e m w (put (length u) b x ++ y) u es os r)
       ]
-  by-token without (p.keep w ∷ x) m u es h l o r =
-      elim (or_cases (contains without w) (some_choice (λ c. (is_keep c.take && contains c.on w) && member x (listed e c.steps)) (alternatives e q)) h) [
-        | inl i ↦ absurd (excluded without w event.Keep (x ++ y) u es m i o (after-keep e m w (x ++ y) u es r))
+  by-token without (p.keep w ∷ x) m u es os h l o r =
+      elim (or_cases (contains without w) (some_choice (λ c. (is_keep c.take && contains c.on w) && member x (turned_ways e q c)) (alternatives e q)) h) [
+        | inl i ↦ absurd (excluded without w event.Keep (put (length u) b x ++ y) u es os m i o (after-keep e m w (put (length u) b x ++ y) u es os r))
         | inr i ↦
-            let c = some-choice (λ c. (is_keep c.take && contains c.on w) && member x (listed e c.steps)) (alternatives e q) i in
-            let b = and_parts (is_keep c.choice.take && contains c.choice.on w) (member x (listed e c.choice.steps)) c.holds in
-            let d = and_parts (is_keep c.choice.take) (contains c.choice.on w) b.0 in
-            turn take.Keep event.Keep c.choice w x u es (λ t v. refl) refl (is-keep c.choice.take d.0) c.among d.1 (member-in x (listed e c.choice.steps) b.1) m l
-            (after-keep e m w (x ++ y) u es r)
+            let c = some-choice (λ c. (is_keep c.take && contains c.on w) && member x (turned_ways e q c)) (alternatives e q) i in
+            let k = and_parts (is_keep c.choice.take && contains c.choice.on w) (member x (turned_ways e q c.choice)) c.holds in
+            let d = and_parts (is_keep c.choice.take) (contains c.choice.on w) k.0 in
+            turn take.Keep event.Keep c.choice w x u es os (λ t v. refl) refl (is-keep c.choice.take d.0) c.among d.1 (member-in x (turned_ways e q c.choice) k.1) m l
+            (after-keep e m w (put (length u) b x ++ y) u es os r)
       ]
-  by-token without _ m u es h l o r = absurd (false≢true h)
+  by-token without _ m u es os h l o r = absurd (false≢true h)
 
   -- what is admitted else
-  by-else : (f : Way) (m : ℕ) (u : List Terminal) (es : List Event) → passes e (otherwise q) f ≡ true → m ≤ n → Trace e m (f ++ y) u es → Derives e (step.Call q ∷ K) u es
-  by-else f m u es h l r = go (otherwise q) refl h
+  by-else : (f : Way) (m : ℕ) (u : List Terminal) (es : List Event) (os : List End) → passes e (otherwise q) f ≡ true → m ≤ n → Of m f u es os → Goal u es os
+  by-else f m u es os h l r = go (otherwise q) refl h
     where
-      go : (o : Option (List Step)) → otherwise q ≡ o → passes e o f ≡ true → Derives e (step.Call q ∷ K) u es
+      go : (o : Option (List Step)) → otherwise q ≡ o → passes e o f ≡ true → Goal u es os
       go None k h = absurd (false≢true h)
       go (Some ss) k h =
-          let i = lead-append ss K in
+          let len = length u in
+          let i : lead (bare (pushed ss b J)) ≤ lead ss + lead (bare J) = subst (λ (z : List Step). lead z ≤ lead ss + lead (bare J)) (sym (bare-pushed ss b J)) (lead-append ss (bare J)) in
           let j = else-lead e q ss k in
-          pass q ss K u es k
-          (a.still m (ss ++ K) (f ++ y) u es l (omega arith) (good-append ss K (follow q) (is_else e q ss k).fit a.good.0 a.good.1) (closed-else e q ss K k a.closed)
-          (means-append e ss K f y (listed-means e ss f (member-in f (listed e ss) h)) a.means) r)
+          n_pass q ss b J u es os k
+          (a.still m (pushed ss b J) (put len b f ++ y) u es os l (omega (arith, i, j))
+          (subst Good (sym (bare-pushed ss b J)) (good-append ss (bare J) (follow q) (is_else e q ss k).fit a.good.0 a.good.1))
+          (subst Closed (sym (bare-pushed ss b J)) (closed-else e q ss (bare J) k a.closed)) (guarded-else e q ss b J k a.guarded.0 a.guarded.1)
+          (listed-means e len 1 b (λ p z v. put-way e len b 1 p z v) ss J f y (member-in f (listed e 1 ss) h) a.means) r)
 
   -- an alternative that takes without token
-  looked : (c : Choice) (f : Way) (m : ℕ) (u : List Terminal) (es : List Event) → IsAmong c (alternatives e q) → is_look c.take ≡ true → member f (listed e c.steps) ≡ true
-      → m ≤ n → Trace e m (f ++ y) u es → Derives e (c.steps ++ K) u es
-  looked c f m u es i k h l r =
-      let x = lead-append c.steps K in
+  looked : (c : Choice) (f : Way) (m : ℕ) (u : List Terminal) (es : List Event) (os : List End) → IsAmong c (alternatives e q) → is_look c.take ≡ true → member f (turned_ways e q c) ≡ true
+      → m ≤ n → Of m f u es os → Nested e (entered q c (length u) b J) u es os
+  looked c f m u es os i k h l r =
+      let x = lead-entered q c (length u) b J in
       let z = choice-lead e q c i k in
-      a.still m (c.steps ++ K) (f ++ y) u es l (omega arith) (call-good e q c K i a.good.0 a.good.1) (closed-choice e q c K i a.closed)
-      (means-append e c.steps K f y (listed-means e c.steps f (member-in f (listed e c.steps) h)) a.means) r
+      a.still m (entered q c (length u) b J) (put (length u) b f ++ y) u es os l (omega (arith, x, z)) (good-entered e q c (length u) b J i a.good) (closed-entered e q c (length u) b J i a.closed)
+      (guarded-entered e q c (length u) b J i a.guarded.0 a.guarded.1)
+      (turn-means e q c (length u) b J f y (member-in f (turned_ways e q c) h) a.means) r
 
-  look : (c : Choice) (u : List Terminal) (es : List Event) → IsAmong c (alternatives e q) → is_look c.take ≡ true → IsFirst c.on u → Derives e (c.steps ++ K) u es → Derives e (step.Call q ∷ K) u es
-  look c [] es i k o d = absurd o
-  look c (t ∷ u) es i k o d =
+  look : (c : Choice) (u : List Terminal) (es : List Event) (os : List End) → IsAmong c (alternatives e q) → is_look c.take ≡ true → IsFirst c.on u → Nested e (entered q c (length u) b J) u es os → Goal u es os
+  look c [] es os i k o d = absurd o
+  look c (t ∷ u) es os i k o d =
       let z = is-look c.take k in
-      subst (λ (k : Take). Derives e (step.Call q ∷ K) (t ∷ u) (noted k ++ es)) z
-      (call q c t K u es i o (subst (λ (k : Take). Derives e (c.steps ++ K) (left k t u) es) (sym z) d))
+      let M = entered q c (length (t ∷ u)) b J in
+      subst (λ (k : Take). Goal (t ∷ u) (noted k ++ es) os) z
+      (n_call q c t b J u es os i o (subst (λ (k : Take). Nested e M (left k t u) es os) (sym z) d))
 
   looks-look : (k : Take) → is_look k ≡ true → looks k ≡ true
   looks-look take.Keep h = absurd (false≢true h)
@@ -206,38 +266,42 @@ module _ (e : Edition) (n : ℕ) (q : Place) (K : List Step) (y : List Phrase) (
 
   -- it has all that can come first
   all-first : (c : Choice) (u : List Terminal) (es : List Event) → IsAmong c (alternatives e q) → is_look c.take ≡ true
-      → within (firsts c.steps (follow q)) (codes c.on) ≡ true → Derives e (c.steps ++ K) u es → IsFirst c.on u
+      → within (firsts c.steps (follow q)) (codes c.on) ≡ true → Derives e (c.steps ++ bare J) u es → IsFirst c.on u
   all-first c [] es i k w d =
-      let b = nulls-parts c.steps K (nulled e (c.steps ++ K) [] es d tt) in
-      absurd (a.closed.0 (implied (looks c.take && nulls c.steps) (is_closed q) (choice-seals e q c i).0 (and_from (looks c.take) (nulls c.steps) (looks-look c.take k) b.0)) b.1)
+      let x = nulls-parts c.steps (bare J) (nulled e (c.steps ++ bare J) [] es d tt) in
+      absurd (a.closed.0 (implied (looks c.take && nulls c.steps) (is_closed q) (choice-seals e q c i).0 (and_from (looks c.take) (nulls c.steps) (looks-look c.take k) x.0)) x.1)
   all-first c (t ∷ u) es i k w d =
-      let b : has (firsts (c.steps ++ K) []) (code t) ≡ true = starts e (c.steps ++ K) (t ∷ u) es d in
-      let x : has (firsts c.steps (firsts K [])) (code t) ≡ true = ap (λ (xs : List ℕ). has xs (code t)) (sym (firsts-append c.steps K)) ∙ b in
-      has-contains c.on t (within-has (firsts c.steps (follow q)) (codes c.on) (code t) w (firsts-mono c.steps (firsts K []) (follow q) a.good.0 (code t) x))
+      let x : has (firsts (c.steps ++ bare J) []) (code t) ≡ true = starts e (c.steps ++ bare J) (t ∷ u) es d in
+      let z : has (firsts c.steps (firsts (bare J) [])) (code t) ≡ true = ap (λ (xs : List ℕ). has xs (code t)) (sym (firsts-append c.steps (bare J))) ∙ x in
+      has-contains c.on t (within-has (firsts c.steps (follow q)) (codes c.on) (code t) w (firsts-mono c.steps (firsts (bare J) []) (follow q) a.good.0 (code t) z))
 
-  by-look : (f : Way) (m : ℕ) (u : List Terminal) (es : List Event) → looks_at_all e q (alternatives e q) f ≡ true → m ≤ n → Trace e m (f ++ y) u es → Derives e (step.Call q ∷ K) u es
-  by-look f m u es h l r =
-      let c = some-choice (λ c. is_look c.take && (within (firsts c.steps (follow q)) (codes c.on) && member f (listed e c.steps))) (alternatives e q) h in
-      let b = and_parts (is_look c.choice.take) (within (firsts c.choice.steps (follow q)) (codes c.choice.on) && member f (listed e c.choice.steps)) c.holds in
-      let w = and_parts (within (firsts c.choice.steps (follow q)) (codes c.choice.on)) (member f (listed e c.choice.steps)) b.1 in
-      let d = looked c.choice f m u es c.among b.0 w.1 l r in
-      look c.choice u es c.among b.0 (all-first c.choice u es c.among b.0 w.0 d) d
+  by-look : (f : Way) (m : ℕ) (u : List Terminal) (es : List Event) (os : List End) → looks_at_all e q (alternatives e q) f ≡ true → m ≤ n → Of m f u es os → Goal u es os
+  by-look f m u es os h l r =
+      let c = some-choice (λ c. is_look c.take && (within (firsts c.steps (follow q)) (codes c.on) && member f (turned_ways e q c))) (alternatives e q) h in
+      let k = and_parts (is_look c.choice.take) (within (firsts c.choice.steps (follow q)) (codes c.choice.on) && member f (turned_ways e q c.choice)) c.holds in
+      let w = and_parts (within (firsts c.choice.steps (follow q)) (codes c.choice.on)) (member f (turned_ways e q c.choice)) k.1 in
+      let d = looked c.choice f m u es os c.among k.0 w.1 l r in
+      let M = entered q c.choice (length u) b J in
+      look c.choice u es os c.among k.0
+      (all-first c.choice u es c.among k.0 w.0 (subst (λ (z : List Step). Derives e z u es) (bare-entered q c.choice (length u) b J) (derives-of e M u es os d))) d
 
   -- a way with a shorter trace
-  record Shorter (m : ℕ) (xs : List Way) (u : List Terminal) (es : List Event) : Type 0 where
+  record Shorter (m : ℕ) (xs : List Way) (u : List Terminal) (es : List Event) (os : List End) : Type 0 where
     way : Way
     among : In way xs
     size : ℕ
     less : size < m
-    trace : Trace e size (way ++ y) u es
+    trace : Of size way u es os
 
-  shorter : (m : ℕ) (xs : List Way) (u : List Terminal) (es : List Event) → Opened e m u es (all_before y xs) → Shorter m xs u es
-  shorter m [] u es o = elim o [ ]
-  shorter m (x ∷ xs) u es (o_here i _ _ h r) = record { way = x; among = at_head x xs; size = i; less = h; trace = r }
-  shorter m (x ∷ xs) u es (o_there _ _ o) = let s = shorter m xs u es o in record { way = s.way; among = behind s.way x xs s.among; size = s.size; less = s.less; trace = s.trace }
+  shorter : (m : ℕ) (xs : List Way) (u : List Terminal) (es : List Event) (os : List End) → Opened e m u es os (all_before (length u) b y xs) → Shorter m xs u es os
+  shorter m [] u es os o = elim o [ ]
+  shorter m (x ∷ xs) u es os (o_here i _ _ h r) = record { way = x; among = at_head x xs; size = i; less = h; trace = r }
+  shorter m (x ∷ xs) u es os (o_there _ _ o) = let s = shorter m xs u es os o in record { way = s.way; among = behind s.way x xs s.among; size = s.size; less = s.less; trace = s.trace }
 
-  opened-to : (f : Way) (m : ℕ) (u : List Terminal) (es : List Event) → is_open f ≡ true → Trace e m (f ++ y) u es → Shorter m (expand e f) u es
-  opened-to f m u es o r = shorter m (expand e f) u es (subst (Opened e m u es) (expand-append e f y o) (opens e m (f ++ y) u es r (open-append f y o)))
+  opened-to : (f : Way) (m : ℕ) (u : List Terminal) (es : List Event) (os : List End) → is_open f ≡ true → Of m f u es os → Shorter m (expand e 0 f) u es os
+  opened-to f m u es os o r =
+      shorter m (expand e 0 f) u es os (subst (Opened e m u es os) (expand-append e (length u) b f y o)
+      (opens e m (put (length u) b f ++ y) u es os r (open-append (length u) b f y o)))
 
   first-or-not : (on without u : List Terminal) → NotFirst without u → IsFirst on u ⊎ NotFirst (on ++ without) u
   first-or-not on without [] o = inr tt
@@ -247,103 +311,118 @@ module _ (e : Edition) (n : ℕ) (q : Place) (K : List Step) (y : List Phrase) (
   ]
 
   abbrev Covering : ℕ → Type 0
-  Covering d = (without : List Terminal) (f : Way) (m : ℕ) (u : List Terminal) (es : List Event)
-      → covers e q d without f ≡ true → m ≤ n → NotFirst without u → Trace e m (f ++ y) u es → Derives e (step.Call q ∷ K) u es
+  Covering d = (without : List Terminal) (f : Way) (m : ℕ) (u : List Terminal) (es : List Event) (os : List End)
+      → covers e q d without f ≡ true → m ≤ n → NotFirst without u → Of m f u es os → Goal u es os
 
-  onward : (d : ℕ) → Covering d → (others : List Terminal) (f : Way) (m : ℕ) (u : List Terminal) (es : List Event)
-      → m ≤ n → NotFirst others u → every (λ g. covers e q d others g) (expand e f) ≡ true → Shorter m (expand e f) u es → Derives e (step.Call q ∷ K) u es
-  onward d IH others f m u es l o h s = IH others s.way s.size u es (every-in (λ g. covers e q d others g) (expand e f) s.way h s.among) (low s.size s.less) o s.trace
+  onward : (d : ℕ) → Covering d → (others : List Terminal) (f : Way) (m : ℕ) (u : List Terminal) (es : List Event) (os : List End)
+      → m ≤ n → NotFirst others u → every (λ g. covers e q d others g) (expand e 0 f) ≡ true → Shorter m (expand e 0 f) u es os → Goal u es os
+  onward d IH others f m u es os l o h s = IH others s.way s.size u es os (every-in (λ g. covers e q d others g) (expand e 0 f) s.way h s.among) (low s.size s.less) o s.trace
     where
       low : (i : ℕ) → i < m → i ≤ n
       low i k = omega arith
 
-  by-split : (d : ℕ) → Covering d → (without : List Terminal) (f : Way) (m : ℕ) (u : List Terminal) (es : List Event) → m ≤ n → NotFirst without u → is_open f ≡ true
-      → some_choice (λ c. is_look c.take && (member f (listed e c.steps) && every (λ g. covers e q d (c.on ++ without) g) (expand e f))) (alternatives e q) ≡ true
-      → Trace e m (f ++ y) u es → Derives e (step.Call q ∷ K) u es
-  by-split d IH without f m u es l o b x r =
-      let c = some-choice (λ c. is_look c.take && (member f (listed e c.steps) && every (λ g. covers e q d (c.on ++ without) g) (expand e f))) (alternatives e q) x in
-      let k = and_parts (is_look c.choice.take) (member f (listed e c.choice.steps) && every (λ g. covers e q d (c.choice.on ++ without) g) (expand e f)) c.holds in
-      let w = and_parts (member f (listed e c.choice.steps)) (every (λ g. covers e q d (c.choice.on ++ without) g) (expand e f)) k.1 in
+  by-split : (d : ℕ) → Covering d → (without : List Terminal) (f : Way) (m : ℕ) (u : List Terminal) (es : List Event) (os : List End) → m ≤ n → NotFirst without u → is_open f ≡ true
+      → some_choice (λ c. is_look c.take && (member f (turned_ways e q c) && every (λ g. covers e q d (c.on ++ without) g) (expand e 0 f))) (alternatives e q) ≡ true
+      → Of m f u es os → Goal u es os
+  by-split d IH without f m u es os l o k x r =
+      let c = some-choice (λ c. is_look c.take && (member f (turned_ways e q c) && every (λ g. covers e q d (c.on ++ without) g) (expand e 0 f))) (alternatives e q) x in
+      let v = and_parts (is_look c.choice.take) (member f (turned_ways e q c.choice) && every (λ g. covers e q d (c.choice.on ++ without) g) (expand e 0 f)) c.holds in
+      let w = and_parts (member f (turned_ways e q c.choice)) (every (λ g. covers e q d (c.choice.on ++ without) g) (expand e 0 f)) v.1 in
       elim (first-or-not c.choice.on without u o) [
-        | inl i ↦ look c.choice u es c.among k.0 i (looked c.choice f m u es c.among k.0 w.0 l r)
-        | inr i ↦ onward d IH (c.choice.on ++ without) f m u es l i w.1 (opened-to f m u es b r)
+        | inl i ↦ look c.choice u es os c.among v.0 i (looked c.choice f m u es os c.among v.0 w.0 l r)
+        | inr i ↦ onward d IH (c.choice.on ++ without) f m u es os l i w.1 (opened-to f m u es os k r)
       ]
 
   covering : (d : ℕ) → Covering d → Covering (suc d)
-  covering d IH without f m u es h l o r =
-      let deeper : Bool = every (λ g. covers e q d without g) (expand e f) in
-      let split : Bool = some_choice (λ c. is_look c.take && (member f (listed e c.steps) && every (λ g. covers e q d (c.on ++ without) g) (expand e f))) (alternatives e q) in
+  covering d IH without f m u es os h l o r =
+      let deeper : Bool = every (λ g. covers e q d without g) (expand e 0 f) in
+      let split : Bool = some_choice (λ c. is_look c.take && (member f (turned_ways e q c) && every (λ g. covers e q d (c.on ++ without) g) (expand e 0 f))) (alternatives e q) in
       let rest : Bool = is_open f && (split || deeper) in
-      elim (or_cases (passes e (otherwise q) f) (takes_it e (alternatives e q) without f || (looks_at_all e q (alternatives e q) f || rest)) h) [
-        | inl i ↦ by-else f m u es i l r
-        | inr i ↦ elim (or_cases (takes_it e (alternatives e q) without f) (looks_at_all e q (alternatives e q) f || rest) i) [
-          | inl j ↦ by-token without f m u es j l o r
+      elim (or_cases (passes e (otherwise q) f) (takes_it e q (alternatives e q) without f || (looks_at_all e q (alternatives e q) f || rest)) h) [
+        | inl i ↦ by-else f m u es os i l r
+        | inr i ↦ elim (or_cases (takes_it e q (alternatives e q) without f) (looks_at_all e q (alternatives e q) f || rest) i) [
+          | inl j ↦ by-token without f m u es os j l o r
           | inr j ↦ elim (or_cases (looks_at_all e q (alternatives e q) f) rest j) [
-            | inl k ↦ by-look f m u es k l r
-            | inr k ↦ let b = and_parts (is_open f) (split || deeper) k in elim (or_cases split deeper b.1) [
-              | inl x ↦ by-split d IH without f m u es l o b.0 x r
-              | inr x ↦ onward d IH without f m u es l o x (opened-to f m u es b.0 r)
+            | inl k ↦ by-look f m u es os k l r
+            | inr k ↦ let v = and_parts (is_open f) (split || deeper) k in elim (or_cases split deeper v.1) [
+              | inl x ↦ by-split d IH without f m u es os l o v.0 x r
+              | inr x ↦ onward d IH without f m u es os l o x (opened-to f m u es os v.0 r)
             ]
           ]
         ]
       ]
 
   cover : (d : ℕ) → Covering d
-  cover zero without f m u es h l o r = absurd (false≢true h)
-  cover (suc d) without f m u es h l o r = covering d (cover d) without f m u es h l o r
+  cover zero without f m u es os h l o r = absurd (false≢true h)
+  cover (suc d) without f m u es os h l o r = covering d (cover d) without f m u es os h l o r
 
 -- one more part of a list is an alternative
-invert : (e : Edition) (q : Place) (K : List Step) (u : List Terminal) (es : List Event) → is_part q ≡ true → Derives e (step.Call q ∷ step.Make form.Add ∷ step.Many q ∷ K) u es → Derives e (step.Many q ∷ K) u es
-invert e q K _ _ h (call _ c t _ u es a b d) = more q c t K u es a b (all-take e q h c a) d
-invert e q K u es h (pass _ ss _ _ _ o d) = absurd (subst (λ (x : Option (List Step)). IsNone x) (sym (nothing-else q h) ∙ o) tt)
+invert : (e : Edition) (q : Place) (b : ℕ) (J : List Nest) (u : List Terminal) (es : List Event) (os : List End) → is_part q ≡ true
+    → Nested e (at (step.Call q) b ∷ (at (step.Make form.Add) b ∷ (at (step.Many q) b ∷ J))) u es os → Nested e (at (step.Many q) b ∷ J) u es os
+invert e q b J _ _ _ h (n_call _ c t _ _ u es os x y d) = n_more q c t b J u es os x y (all-take e q h c x) d
+invert e q b J u es os h (n_pass _ ss _ _ _ _ _ o d) = absurd (subst (λ (x : Option (List Step)). IsNone x) (sym (nothing-else q h) ∙ o) tt)
   where
     IsNone : Option (List Step) → Type 0
     IsNone None = Unit {0}
     IsNone (Some ss) = ⊥
 
+-- one more part is guarded as the list is
+call-guard : (q : Place) (b : ℕ) (J : List Nest) → Guarded (at (step.Many q) b ∷ J) → (k : Kind) → has_late k (at (step.Make form.Add) b ∷ (at (step.Many q) b ∷ J)) ≡ true
+    → free_step k (step.Call q) ≡ true
+call-guard q b J v k h = v.0 k h
+
 -- the steps before the first that makes something
 step-on : (e : Edition) (n : ℕ) → Less e n → (w : ℕ) → ((v : ℕ) → v < w → Still e n v) → Still e n w
-step-on e n less w still m _ _ u es l h g c m_end r =
-    let b = at-end e m u es r in
-    subst (λ (v : List Terminal). Derives e [] v es) (sym b.0) (subst (λ (fs : List Event). Derives e [] [] fs) (sym b.1) done)
-step-on e n less w still m _ _ u es l h g c (m_make f K s k) r =
-    let b = after-make e m f s u es r in
-    subst (λ (fs : List Event). Derives e (step.Make f ∷ K) u fs) (sym b.events) (make f K u b.others (less b.size K s u b.others (low b.size b.less) g c k b.trace))
+step-on e n less w still m _ _ u es os l h g c v m_nothing r =
+    let z = at-end e m u es os r in
+    subst (λ (v : List Terminal). Nested e [] v es os) (sym z.0) (subst (λ (fs : List Event). Nested e [] [] fs os) (sym z.1) (subst (Nested e [] [] []) (sym z.2) n_done))
+step-on e n less w still m _ _ u es os l h g c v (m_end kind b J s k) r =
+    let z = after-close e m kind b s u es os r in
+    subst (Nested e (end kind b ∷ J) u es) (sym (z.ends ∙ ap (λ (d : ℕ). ended b (d + 1) ∷ z.others) (same-round e kind J s k v.0)))
+    (n_end kind b J u es z.others v.0 (less z.size J s u es z.others (low z.size z.less) g c v.1 k z.trace))
   where
     low : (i : ℕ) → i < m → i < n
     low i k = omega arith
-step-on e n less w still m _ _ u es l h g c (m_skip x K s k) r =
-    let b = after-skip e m x s u es r in
-    subst (λ (v : List Terminal). Derives e (step.Skip x ∷ K) v es) (sym b.tokens)
-    (subst (λ (fs : List Event). Derives e (step.Skip x ∷ K) (b.token ∷ b.rest) fs) (sym b.events)
-    (skip x b.token K b.rest b.others (subst (λ (t : Terminal). same x t ≡ true) b.is (same-self x)) (less b.size K s b.rest b.others (low b.size b.less) g c k b.trace)))
+step-on e n less w still m _ _ u es os l h g c v (m_make f b J s k) r =
+    let z = after-make e m f s u es os r in
+    subst (λ (fs : List Event). Nested e (at (step.Make f) b ∷ J) u fs os) (sym z.events) (n_make f b J u z.others os (less z.size J s u z.others os (low z.size z.less) g c v.1 k z.trace))
   where
     low : (i : ℕ) → i < m → i < n
     low i k = omega arith
-step-on e n less w still m _ _ u es l h g c (m_keep x K s k) r =
-    let b = after-keep e m x s u es r in
-    subst (λ (v : List Terminal). Derives e (step.Keep x ∷ K) v es) (sym b.tokens)
-    (subst (λ (fs : List Event). Derives e (step.Keep x ∷ K) (b.token ∷ b.rest) fs) (sym b.events)
-    (keep x b.token K b.rest b.others (subst (λ (t : Terminal). same x t ≡ true) b.is (same-self x)) (less b.size K s b.rest b.others (low b.size b.less) g c k b.trace)))
+step-on e n less w still m _ _ u es os l h g c v (m_skip x b J s k) r =
+    let z = after-skip e m x s u es os r in
+    subst (λ (v : List Terminal). Nested e (at (step.Skip x) b ∷ J) v es os) (sym z.tokens)
+    (subst (λ (fs : List Event). Nested e (at (step.Skip x) b ∷ J) (z.token ∷ z.rest) fs os) (sym z.events)
+    (n_skip x z.token b J z.rest z.others os (subst (λ (t : Terminal). same x t ≡ true) z.is (same-self x)) (less z.size J s z.rest z.others os (low z.size z.less) g c v.1 k z.trace)))
   where
     low : (i : ℕ) → i < m → i < n
     low i k = omega arith
-step-on e n less w still m _ _ u es l h g c (m_call q x K y i k) r =
-    cover e n q K y (record { means = k; good = g; closed = c; less = less; still = still (rank q + lead K) (omega arith) })
-    depth [] x m u es (every-in (λ z. covers e q depth [] z) (ways e q) x (covered-parts e q).2 i) l (nothing-first u) r
+step-on e n less w still m _ _ u es os l h g c v (m_keep x b J s k) r =
+    let z = after-keep e m x s u es os r in
+    subst (λ (v : List Terminal). Nested e (at (step.Keep x) b ∷ J) v es os) (sym z.tokens)
+    (subst (λ (fs : List Event). Nested e (at (step.Keep x) b ∷ J) (z.token ∷ z.rest) fs os) (sym z.events)
+    (n_keep x z.token b J z.rest z.others os (subst (λ (t : Terminal). same x t ≡ true) z.is (same-self x)) (less z.size J s z.rest z.others os (low z.size z.less) g c v.1 k z.trace)))
+  where
+    low : (i : ℕ) → i < m → i < n
+    low i k = omega arith
+step-on e n less w still m _ _ u es os l h g c v (m_call q x b J y i k) r =
+    let z = way-put e (length u) b 1 q x i in
+    cover e n q b J y (record { means = k; good = g; closed = c; guarded = v; less = less; still = still (rank q + lead (bare J)) (omega arith) })
+    depth [] z.0 m u es os (every-in (λ z. covers e q depth [] z) (ways e 1 q) z.0 (covered-parts e q).2 z.1) l (nothing-first u)
+    (subst (λ (z : Way). Trace e m (z ++ y) u es os) (sym z.2) r)
   where
     nothing-first : (u : List Terminal) → NotFirst [] u
     nothing-first [] = tt
     nothing-first (t ∷ u) = refl
-step-on e n less w still m _ _ u es l h g c (m_many q K y i k) r = elim (opens e m (many (repeated q) ∷ y) u es r refl) [
-  | o_here z _ _ b d ↦ stop q K u es (less z K y u es (low z b) g.2 c.1 k d)
-  | o_there _ _ (o_here z _ _ b d) ↦ invert e q K u es i
-      (less z (step.Call q ∷ step.Make form.Add ∷ step.Many q ∷ K) (flat (part q) ++ (p.make form.Add ∷ many (repeated q) ∷ y)) u es (low z b)
-      (g.0, g) ((λ a f. c.0 a), c)
-      (m_call q (flat (part q)) (step.Make form.Add ∷ step.Many q ∷ K) (p.make form.Add ∷ many (repeated q) ∷ y)
-      (subst (λ (xs : List Way). In (flat (part q)) xs) (sym (single e q i)) (at_head (flat (part q)) []))
-      (m_make form.Add (step.Many q ∷ K) (many (repeated q) ∷ y) (m_many q K y i k)))
-      (subst (λ (s : List Phrase). Trace e z s u es) (append_assoc (flat (part q)) (p.make form.Add ∷ []) (many (repeated q) ∷ y)) d))
+step-on e n less w still m _ _ u es os l h g c v (m_many q b J y i k) r = elim (opens e m (many (repeated q) ∷ y) u es os r refl) [
+  | o_here z _ _ x d ↦ n_stop q b J u es os (less z J y u es os (low z x) g.2 c.1 v.1 k d)
+  | o_there _ _ (o_here z _ _ x d) ↦ invert e q b J u es os i
+      (less z (at (step.Call q) b ∷ (at (step.Make form.Add) b ∷ (at (step.Many q) b ∷ J))) (flat (part q) ++ (p.make form.Add ∷ many (repeated q) ∷ y)) u es os (low z x)
+      (g.0, g) ((λ a f. c.0 a), c) (call-guard q b J v, ((λ k z. refl), v))
+      (m_call q (flat (part q)) b (at (step.Make form.Add) b ∷ (at (step.Many q) b ∷ J)) (p.make form.Add ∷ many (repeated q) ∷ y)
+      (subst (λ (xs : List Way). In (flat (part q)) xs) (sym (single e b q i)) (at_head (flat (part q)) []))
+      (m_make form.Add b (at (step.Many q) b ∷ J) (many (repeated q) ∷ y) (m_many q b J y i k)))
+      (subst (λ (s : Way). Trace e z s u es os) (append_assoc (flat (part q)) (p.make form.Add ∷ []) (many (repeated q) ∷ y)) d))
   | o_there _ _ (o_there _ _ o) ↦ elim o [ ]
 ]
   where
@@ -352,12 +431,12 @@ step-on e n less w still m _ _ u es l h g c (m_many q K y i k) r = elim (opens e
 
 still-all : (e : Edition) (n : ℕ) → Less e n → (w : ℕ) → Still e n w
 still-all e n less zero = step-on e n less zero (λ v h. absurd (omega arith))
-still-all e n less (suc w) = step-on e n less (suc w) (λ v h m K s u es l k. still-all e n less w m K s u es l (omega arith))
+still-all e n less (suc w) = step-on e n less (suc w) (λ v h m J s u es os l k. still-all e n less w m J s u es os l (omega arith))
 
 less-all : (e : Edition) (n : ℕ) → Less e n
-less-all e zero m K s u es h = absurd (omega arith)
-less-all e (suc n) m K s u es h = still-all e n (less-all e n) (lead K) m K s u es (omega arith) (omega arith)
+less-all e zero m J s u es os h = absurd (omega arith)
+less-all e (suc n) m J s u es os h = still-all e n (less-all e n) (lead (bare J)) m J s u es os (omega arith) (omega arith)
 
-pub complete : (e : Edition) (n : ℕ) (K : List Step) (s : List Phrase) (u : List Terminal) (es : List Event)
-    → Good K → Closed K → Means e K s → Trace e n s u es → Derives e K u es
-complete e n K s u es g c m r = less-all e (suc n) n K s u es (omega arith) g c m r
+pub complete : (e : Edition) (n : ℕ) (J : List Nest) (s : Way) (u : List Terminal) (es : List Event) (os : List End)
+    → Good (bare J) → Closed (bare J) → Guarded J → Means e J s → Trace e n s u es os → Nested e J u es os
+complete e n J s u es os g c v m r = less-all e (suc n) n J s u es os (omega arith) g c v m r

@@ -236,7 +236,7 @@ numbered name = refl
 numbered name_part = refl
 numbered argument = refl
 
-number-is : (p q : Production) → nat_eq (number p) (number q) ≡ true → p ≡ q
+pub number-is : (p q : Production) → nat_eq (number p) (number q) ≡ true → p ≡ q
 number-is p q h = sym (numbered p) ∙ ap (λ (n : ℕ). get_or in_order n design_unit) (eqb-true (number p) (number q) h) ∙ numbered q
 
 abbrev pub eq : Phrase → Phrase → Bool
@@ -260,13 +260,3 @@ eq-is (a or b) (c or d) h = let x = and_parts (eq a c) (eq b d) h in ap (λ (z :
 eq-is (option a) (option b) h = ap option (eq-is a b h)
 eq-is (many a) (many b) h = ap many (eq-is a b h)
 eq-is _ _ h = absurd (false≢true h)
-
-abbrev pub eq_all : List Phrase → List Phrase → Bool
-eq_all [] [] = true
-eq_all (a ∷ x) (b ∷ y) = let r = eq_all x y in eq a b && r
-eq_all _ _ = false
-
-pub eq_all-is : (x y : List Phrase) → eq_all x y ≡ true → x ≡ y
-eq_all-is [] [] h = refl
-eq_all-is (a ∷ x) (b ∷ y) h = let z = and_parts (eq a b) (eq_all x y) h in ap (λ (c : Phrase). c ∷ x) (eq-is a b z.0) ∙ ap (λ (v : List Phrase). b ∷ v) (eq_all-is x y z.1)
-eq_all-is _ _ h = absurd (false≢true h)

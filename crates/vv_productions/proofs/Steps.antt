@@ -1,5 +1,5 @@
 -- What steps of the table stand for: a way of each place, one behind the other.
-use Rattle.std.proofs.Common.{◌≡◌, ◌⊎◌, inl, inr, Bool, true, false, ◌&&◌, List, [], ◌∷◌, ◌++◌, refl, sym, ap, ◌∙◌, subst, append_assoc}
+use Rattle.std.proofs.Common.{◌≡◌, ◌⊎◌, inl, inr, ℕ, Bool, true, false, ◌&&◌, List, [], ◌∷◌, ◌++◌, refl, sym, ap, ◌∙◌, subst, append_assoc}
 use Rattle.std.proofs.lemmas.Bool.{false≢true, and_parts, and_from}
 use Rattle.vv_grammar.specs.declared.edition.Edition.{Edition}
 use Rattle.vv_grammar.specs.declared.form.Form.{Form}
@@ -11,8 +11,11 @@ use Rattle.vv_grammar.specs.declared.step.Step.TheVariants as step
 use Rattle.vv_grammar.specs.declared.terminal.Terminal.{Terminal}
 use Rattle.vv_productions.specs.Phrases as p
 use Rattle.vv_productions.specs.Productions as q
-use Rattle.vv_productions.specs.Phrases.{Phrase, skip, keep, make, rule, ◌▸◌, ◌or◌, option, many}
-use Rattle.vv_productions.proofs.Among.{Way, In, at_head, behind}
+use Rattle.vv_productions.specs.Phrases.{Phrase, ◌▸◌, ◌or◌}
+use Rattle.vv_productions.specs.Depths.{Kind}
+use Rattle.vv_productions.proofs.Items.{Item, skip, keep, make, many, close, Way, put, put-append, at_place}
+use Rattle.vv_productions.proofs.Among.{In, at_head, behind}
+use Rattle.vv_productions.proofs.Nested.{Nest, at, end, pushed}
 use Rattle.vv_productions.proofs.Meanings.{ways}
 
 -- the places that steps repeat
@@ -28,29 +31,31 @@ is_part place.MarkPart = true
 is_part _ = false
 
 abbrev pub part : Place → Phrase
-part place.Unit = rule p.design_unit
-part place.Declaration = rule p.declaration
-part place.PackageDeclaration = rule p.common_declaration or rule p.component
-part place.BodyDeclaration = rule p.common_declaration or rule p.function_body
-part place.ProcessDeclaration = rule p.process_declaration
-part place.Concurrent = rule p.concurrent_statement
-part place.Statement = rule p.statement
+part place.Unit = p.rule p.design_unit
+part place.Declaration = p.rule p.declaration
+part place.PackageDeclaration = p.rule p.common_declaration or p.rule p.component
+part place.BodyDeclaration = p.rule p.common_declaration or p.rule p.function_body
+part place.ProcessDeclaration = p.rule p.process_declaration
+part place.Concurrent = p.rule p.concurrent_statement
+part place.Statement = p.rule p.statement
 part place.MarkPart = q.dotted_part
-part _ = make form.Absent
+part _ = p.make form.Absent
 
 abbrev pub repeated : Place → Phrase
-repeated p = part p ▸ make form.Add
+repeated q = part q ▸ p.make form.Add
 
-pub data Means (e : Edition) : List Step → List Phrase → Type 0 where
-  m_end : Means e [] []
-  m_make : (f : Form) (K : List Step) (s : List Phrase) → Means e K s → Means e (step.Make f ∷ K) (make f ∷ s)
-  m_skip : (w : Terminal) (K : List Step) (s : List Phrase) → Means e K s → Means e (step.Skip w ∷ K) (skip w ∷ s)
-  m_keep : (w : Terminal) (K : List Step) (s : List Phrase) → Means e K s → Means e (step.Keep w ∷ K) (keep w ∷ s)
-  m_call : (p : Place) (x : Way) (K : List Step) (s : List Phrase) → In x (ways e p) → Means e K s → Means e (step.Call p ∷ K) (x ++ s)
-  m_many : (p : Place) (K : List Step) (s : List Phrase) → is_part p ≡ true → Means e K s → Means e (step.Many p ∷ K) (many (repeated p) ∷ s)
+-- What steps stand for: a way of each place, one behind the other, with the ends between them.
+pub data Means (e : Edition) : List Nest → Way → Type 0 where
+  m_nothing : Means e [] []
+  m_end : (k : Kind) (b : ℕ) (J : List Nest) (s : Way) → Means e J s → Means e (end k b ∷ J) (close k b ∷ s)
+  m_make : (f : Form) (b : ℕ) (J : List Nest) (s : Way) → Means e J s → Means e (at (step.Make f) b ∷ J) (make f ∷ s)
+  m_skip : (w : Terminal) (b : ℕ) (J : List Nest) (s : Way) → Means e J s → Means e (at (step.Skip w) b ∷ J) (skip w ∷ s)
+  m_keep : (w : Terminal) (b : ℕ) (J : List Nest) (s : Way) → Means e J s → Means e (at (step.Keep w) b ∷ J) (keep w ∷ s)
+  m_call : (p : Place) (x : Way) (b : ℕ) (J : List Nest) (s : Way) → In x (ways e b p) → Means e J s → Means e (at (step.Call p) b ∷ J) (x ++ s)
+  m_many : (p : Place) (b : ℕ) (J : List Nest) (s : Way) → is_part p ≡ true → Means e J s → Means e (at (step.Many p) b ∷ J) (many (repeated p) ∷ s)
 
 -- all that steps stand for
-abbrev pub each_behind : Phrase → List Way → List Way
+abbrev pub each_behind : Item → List Way → List Way
 each_behind a [] = []
 each_behind a (x ∷ xs) = (a ∷ x) ∷ each_behind a xs
 
@@ -66,15 +71,16 @@ abbrev pub if_part : Bool → List Way → List Way
 if_part true xs = xs
 if_part false xs = []
 
-abbrev pub listed : Edition → List Step → List Way
-listed e [] = [] ∷ []
-listed e (step.Make f ∷ K) = each_behind (make f) (listed e K)
-listed e (step.Skip w ∷ K) = each_behind (skip w) (listed e K)
-listed e (step.Keep w ∷ K) = each_behind (keep w) (listed e K)
-listed e (step.Call p ∷ K) = spread (ways e p) (listed e K)
-listed e (step.Many p ∷ K) = if_part (is_part p) (each_behind (many (repeated p)) (listed e K))
+-- where the production round them began at b
+abbrev pub listed : Edition → ℕ → List Step → List Way
+listed e b [] = [] ∷ []
+listed e b (step.Make f ∷ K) = each_behind (make f) (listed e b K)
+listed e b (step.Skip w ∷ K) = each_behind (skip w) (listed e b K)
+listed e b (step.Keep w ∷ K) = each_behind (keep w) (listed e b K)
+listed e b (step.Call p ∷ K) = spread (ways e b p) (listed e b K)
+listed e b (step.Many p ∷ K) = if_part (is_part p) (each_behind (many (repeated p)) (listed e b K))
 
-in-behind : (a : Phrase) (x : Way) (xs : List Way) → In x xs → In (a ∷ x) (each_behind a xs)
+in-behind : (a : Item) (x : Way) (xs : List Way) → In x xs → In (a ∷ x) (each_behind a xs)
 in-behind a x [] i = elim i [ ]
 in-behind a x (_ ∷ xs) (at_head _ _) = at_head (a ∷ x) (each_behind a xs)
 in-behind a x (_ ∷ xs) (behind _ y _ i) = behind (a ∷ x) (a ∷ y) (each_behind a xs) (in-behind a x xs i)
@@ -102,23 +108,13 @@ in-part : (b : Bool) (x : Way) (xs : List Way) → b ≡ true → In x xs → In
 in-part true x xs h i = i
 in-part false x xs h i = absurd (false≢true h)
 
--- All that steps stand for is listed.
-pub means-listed : (e : Edition) (K : List Step) (s : List Phrase) → Means e K s → In s (listed e K)
-means-listed e _ _ m_end = at_head [] []
-means-listed e _ _ (m_make f K s m) = in-behind (make f) s (listed e K) (means-listed e K s m)
-means-listed e _ _ (m_skip w K s m) = in-behind (skip w) s (listed e K) (means-listed e K s m)
-means-listed e _ _ (m_keep w K s m) = in-behind (keep w) s (listed e K) (means-listed e K s m)
-means-listed e _ _ (m_call p x K s i m) = in-spread x s (ways e p) (listed e K) i (means-listed e K s m)
-means-listed e _ _ (m_many p K s h m) =
-    in-part (is_part p) (many (repeated p) ∷ s) (each_behind (many (repeated p)) (listed e K)) h (in-behind (many (repeated p)) s (listed e K) (means-listed e K s m))
-
 -- what stands in such lists
-pub record Behind (a : Phrase) (x : Way) (xs : List Way) : Type 0 where
+pub record Behind (a : Item) (x : Way) (xs : List Way) : Type 0 where
   pub rest : Way
   pub among : In rest xs
   pub is : a ∷ rest ≡ x
 
-behind-of : (a : Phrase) (x : Way) (xs : List Way) → In x (each_behind a xs) → Behind a x xs
+behind-of : (a : Item) (x : Way) (xs : List Way) → In x (each_behind a xs) → Behind a x xs
 behind-of a x [] i = elim i [ ]
 behind-of a _ (y ∷ xs) (at_head _ _) = record { rest = y; among = at_head y xs; is = refl }
 behind-of a x (y ∷ xs) (behind _ _ _ i) = let b = behind-of a x xs i in record { rest = b.rest; among = behind b.rest y xs b.among; is = b.is }
@@ -159,54 +155,76 @@ part-of : (b : Bool) (x : Way) (xs : List Way) → In x (if_part b xs) → (b �
 part-of true x xs i = (refl, i)
 part-of false x xs i = elim i [ ]
 
--- What is listed is what steps stand for.
-pub listed-means : (e : Edition) (K : List Step) (s : List Phrase) → In s (listed e K) → Means e K s
-listed-means e [] _ (at_head _ _) = m_end
-listed-means e [] s (behind _ _ _ i) = elim i [ ]
-listed-means e (step.Make f ∷ K) s i =
-    let b = behind-of (make f) s (listed e K) i in subst (Means e (step.Make f ∷ K)) b.is (m_make f K b.rest (listed-means e K b.rest b.among))
-listed-means e (step.Skip w ∷ K) s i =
-    let b = behind-of (skip w) s (listed e K) i in subst (Means e (step.Skip w ∷ K)) b.is (m_skip w K b.rest (listed-means e K b.rest b.among))
-listed-means e (step.Keep w ∷ K) s i =
-    let b = behind-of (keep w) s (listed e K) i in subst (Means e (step.Keep w ∷ K)) b.is (m_keep w K b.rest (listed-means e K b.rest b.among))
-listed-means e (step.Call p ∷ K) s i =
-    let b = spread-of s (ways e p) (listed e K) i in subst (Means e (step.Call p ∷ K)) b.is (m_call p b.before K b.rest b.first (listed-means e K b.rest b.second))
-listed-means e (step.Many p ∷ K) s i =
-    let h = part-of (is_part p) s (each_behind (many (repeated p)) (listed e K)) i in
-    let b = behind-of (many (repeated p)) s (listed e K) h.1 in
-    subst (Means e (step.Many p ∷ K)) b.is (m_many p K b.rest h.0 (listed-means e K b.rest b.among))
+-- What is listed, put into the tokens, is what steps stand for before others.
+pub listed-means : (e : Edition) (h c d : ℕ) → ((p : Place) (x : Way) → In x (ways e c p) → In (put h d x) (ways e (at_place h d c) p))
+    → (R : List Step) (J : List Nest) (x y : Way) → In x (listed e c R) → Means e J y → Means e (pushed R (at_place h d c) J) (put h d x ++ y)
+listed-means e h c d w [] J _ y (at_head _ _) m = m
+listed-means e h c d w [] J x y (behind _ _ _ i) m = elim i [ ]
+listed-means e h c d w (step.Make f ∷ R) J x y i m =
+    let b = behind-of (make f) x (listed e c R) i in
+    subst (λ (z : Way). Means e (at (step.Make f) (at_place h d c) ∷ pushed R (at_place h d c) J) (put h d z ++ y)) b.is
+    (m_make f (at_place h d c) (pushed R (at_place h d c) J) (put h d b.rest ++ y) (listed-means e h c d w R J b.rest y b.among m))
+listed-means e h c d w (step.Skip t ∷ R) J x y i m =
+    let b = behind-of (skip t) x (listed e c R) i in
+    subst (λ (z : Way). Means e (at (step.Skip t) (at_place h d c) ∷ pushed R (at_place h d c) J) (put h d z ++ y)) b.is
+    (m_skip t (at_place h d c) (pushed R (at_place h d c) J) (put h d b.rest ++ y) (listed-means e h c d w R J b.rest y b.among m))
+listed-means e h c d w (step.Keep t ∷ R) J x y i m =
+    let b = behind-of (keep t) x (listed e c R) i in
+    subst (λ (z : Way). Means e (at (step.Keep t) (at_place h d c) ∷ pushed R (at_place h d c) J) (put h d z ++ y)) b.is
+    (m_keep t (at_place h d c) (pushed R (at_place h d c) J) (put h d b.rest ++ y) (listed-means e h c d w R J b.rest y b.among m))
+listed-means e h c d w (step.Call q ∷ R) J x y i m =
+    let b = spread-of x (ways e c q) (listed e c R) i in
+    let J' = pushed R (at_place h d c) J in
+    subst (λ (z : Way). Means e (at (step.Call q) (at_place h d c) ∷ J') (put h d z ++ y)) b.is
+    (subst (Means e (at (step.Call q) (at_place h d c) ∷ J'))
+    (sym (append_assoc (put h d b.before) (put h d b.rest) y) ∙ ap (λ (z : Way). z ++ y) (sym (put-append h d b.before b.rest)))
+    (m_call q (put h d b.before) (at_place h d c) J' (put h d b.rest ++ y) (w q b.before b.first) (listed-means e h c d w R J b.rest y b.second m)))
+listed-means e h c d w (step.Many q ∷ R) J x y i m =
+    let p = part-of (is_part q) x (each_behind (many (repeated q)) (listed e c R)) i in
+    let b = behind-of (many (repeated q)) x (listed e c R) p.1 in
+    subst (λ (z : Way). Means e (at (step.Many q) (at_place h d c) ∷ pushed R (at_place h d c) J) (put h d z ++ y)) b.is
+    (m_many q (at_place h d c) (pushed R (at_place h d c) J) (put h d b.rest ++ y) p.0 (listed-means e h c d w R J b.rest y b.among m))
 
--- steps behind steps
-pub means-append : (e : Edition) (R K : List Step) (x y : List Phrase) → Means e R x → Means e K y → Means e (R ++ K) (x ++ y)
-means-append e _ K _ y m_end n = n
-means-append e _ K _ y (m_make f R x m) n = m_make f (R ++ K) (x ++ y) (means-append e R K x y m n)
-means-append e _ K _ y (m_skip w R x m) n = m_skip w (R ++ K) (x ++ y) (means-append e R K x y m n)
-means-append e _ K _ y (m_keep w R x m) n = m_keep w (R ++ K) (x ++ y) (means-append e R K x y m n)
-means-append e _ K _ y (m_call p z R x i m) n =
-    subst (Means e (step.Call p ∷ (R ++ K))) (sym (append_assoc z x y)) (m_call p z (R ++ K) (x ++ y) i (means-append e R K x y m n))
-means-append e _ K _ y (m_many p R x h m) n = m_many p (R ++ K) (x ++ y) h (means-append e R K x y m n)
+-- What steps before others stand for is listed.
+pub record Split (e : Edition) (h c d : ℕ) (R : List Step) (J : List Nest) (s : Way) : Type 0 where
+  pub before : Way
+  pub rest : Way
+  pub first : In before (listed e c R)
+  pub second : Means e J rest
+  pub is : put h d before ++ rest ≡ s
 
-pub record Split (e : Edition) (R K : List Step) (s : List Phrase) : Type 0 where
-  pub before : List Phrase
-  pub rest : List Phrase
-  pub first : Means e R before
-  pub second : Means e K rest
-  pub is : before ++ rest ≡ s
-
-pub means-split : (e : Edition) (R K : List Step) (s : List Phrase) → Means e (R ++ K) s → Split e R K s
-means-split e [] K s m = record { before = []; rest = s; first = m_end; second = m; is = refl }
-means-split e (step.Make f ∷ R) K _ (m_make _ _ s m) =
-    let b = means-split e R K s m in record { before = make f ∷ b.before; rest = b.rest; first = m_make f R b.before b.first; second = b.second; is = ap (λ (x : Way). make f ∷ x) b.is }
-means-split e (step.Skip w ∷ R) K _ (m_skip _ _ s m) =
-    let b = means-split e R K s m in record { before = skip w ∷ b.before; rest = b.rest; first = m_skip w R b.before b.first; second = b.second; is = ap (λ (x : Way). skip w ∷ x) b.is }
-means-split e (step.Keep w ∷ R) K _ (m_keep _ _ s m) =
-    let b = means-split e R K s m in record { before = keep w ∷ b.before; rest = b.rest; first = m_keep w R b.before b.first; second = b.second; is = ap (λ (x : Way). keep w ∷ x) b.is }
-means-split e (step.Call p ∷ R) K _ (m_call _ z _ s i m) =
-    let b = means-split e R K s m in
-    record { before = z ++ b.before; rest = b.rest; first = m_call p z R b.before i b.first; second = b.second; is = append_assoc z b.before b.rest ∙ ap (λ (x : Way). z ++ x) b.is }
-means-split e (step.Many p ∷ R) K _ (m_many _ _ s h m) =
-    let b = means-split e R K s m in
-    record { before = many (repeated p) ∷ b.before; rest = b.rest; first = m_many p R b.before h b.first; second = b.second; is = ap (λ (x : Way). many (repeated p) ∷ x) b.is }
+pub means-split : (e : Edition) (h c d : ℕ)
+    → ((p : Place) (x : Way) → In x (ways e (at_place h d c) p) → (y : Way) × In y (ways e c p) × (put h d y ≡ x))
+    → (R : List Step) (J : List Nest) (s : Way) → Means e (pushed R (at_place h d c) J) s → Split e h c d R J s
+means-split e h c d w [] J s m = record { before = []; rest = s; first = at_head [] []; second = m; is = refl }
+means-split e h c d w (step.Make f ∷ R) J _ (m_make _ _ _ s m) =
+    let b = means-split e h c d w R J s m in
+    record { before = make f ∷ b.before; rest = b.rest; first = in-behind (make f) b.before (listed e c R) b.first; second = b.second; is = ap (λ (x : Way). make f ∷ x) b.is }
+means-split e h c d w (step.Skip t ∷ R) J _ (m_skip _ _ _ s m) =
+    let b = means-split e h c d w R J s m in
+    record { before = skip t ∷ b.before; rest = b.rest; first = in-behind (skip t) b.before (listed e c R) b.first; second = b.second; is = ap (λ (x : Way). skip t ∷ x) b.is }
+means-split e h c d w (step.Keep t ∷ R) J _ (m_keep _ _ _ s m) =
+    let b = means-split e h c d w R J s m in
+    record { before = keep t ∷ b.before; rest = b.rest; first = in-behind (keep t) b.before (listed e c R) b.first; second = b.second; is = ap (λ (x : Way). keep t ∷ x) b.is }
+means-split e h c d w (step.Call q ∷ R) J _ (m_call _ z _ _ s i m) =
+    let b = means-split e h c d w R J s m in
+    let v = w q z i in
+    record {
+      before = v.0 ++ b.before;
+      rest = b.rest;
+      first = in-spread v.0 b.before (ways e c q) (listed e c R) v.1 b.first;
+      second = b.second;
+      is = ap (λ (x : Way). x ++ b.rest) (put-append h d v.0 b.before) ∙ append_assoc (put h d v.0) (put h d b.before) b.rest ∙ ap (λ (x : Way). x ++ (put h d b.before ++ b.rest)) v.2 ∙ ap (λ (x : Way). z ++ x) b.is;
+    }
+means-split e h c d w (step.Many q ∷ R) J _ (m_many _ _ _ s k m) =
+    let b = means-split e h c d w R J s m in
+    record {
+      before = many (repeated q) ∷ b.before;
+      rest = b.rest;
+      first = in-part (is_part q) (many (repeated q) ∷ b.before) (each_behind (many (repeated q)) (listed e c R)) k (in-behind (many (repeated q)) b.before (listed e c R) b.first);
+      second = b.second;
+      is = ap (λ (x : Way). many (repeated q) ∷ x) b.is;
+    }
 
 -- all that is repeated is known
 abbrev pub known : List Step → Bool

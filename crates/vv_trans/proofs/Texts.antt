@@ -17,9 +17,8 @@ use Rattle.vv_grammar_laws.proofs.Back.{same_derivation}
 use Rattle.vv_grammar_laws.specs.Depths.{IsTooDeepAt}
 use Rattle.vv_grammar_laws.proofs.Plain.{head}
 use Rattle.vv_grammar_laws.proofs.Bridge.{head-from}
-use Rattle.vv_grammar_laws.proofs.Verdicts.{one_misplaced, one_deep, apart, not_deep, not_misplaced}
-use Rattle.vv_productions.proofs.Readings.{misplaced-of}
-use Rattle.vv_productions.proofs.Main.{admits}
+use Rattle.vv_productions.proofs.Readings.{read-of, misplaced-of, deep-of, one_place, one_depth, not_both, read_shallow, read_whole}
+use Rattle.vv_productions.proofs.Main.{derives, admitted, derived, too_deep_matches, too_deep_derives}
 use Rattle.vv_vlex_laws.specs.Cut.{IsCutOf}
 use Rattle.vv_trans.proofs.Ending.{all_derived}
 use Rattle.vv_grammar.specs.Terminals.{terminals_of_elements}
@@ -38,56 +37,64 @@ none_some b e = cc
 
 read_text : (bytes : List ℕ) (ls : List Lexeme) → IsCutOf bytes ls → (o : Outcome) → parsed (terminals_of_elements ls) ≡ o → judged ls o ≡ None → IsText ls
 read_text bytes ls cut (reads es b) h e =
-    let r = driven_reads edition.Vhdl93 whole_file (terminals_of_elements ls) 0 b es h in
-    let none : drop b (terminals_of_elements ls) ≡ [] = all_derived bytes ls cut edition.Vhdl93 r.tokens (drop b (terminals_of_elements ls)) es r.derives r.between.split in
-    let all : r.tokens ≡ terminals_of_elements ls = sym (r.between.split ∙ ap (λ (x : List Terminal). r.tokens ++ x) none ∙ append-nil r.tokens) in
-    let d = same_derivation edition.Vhdl93 (steps_for whole_file) (steps_for whole_file) r.tokens (terminals_of_elements ls) es refl all r.derives (starting_with (steps_for whole_file) 0) 0 in
+    let ts = terminals_of_elements ls in
+    let r = driven_reads edition.Vhdl93 whole_file ts 0 b es h in
+    let none : drop b ts ≡ [] = all_derived bytes ls cut edition.Vhdl93 r.tokens (drop b ts) es r.derives r.between.split in
+    let all : r.tokens ≡ ts = sym (r.between.split ∙ ap (λ (x : List Terminal). r.tokens ++ x) none ∙ append-nil r.tokens) in
+    let d = same_derivation edition.Vhdl93 (steps_for whole_file) (steps_for whole_file) r.tokens ts es refl all r.derives (starting_with (steps_for whole_file) 0) 0 in
+    let m = admitted edition.Vhdl93 whole_file ts es 0 d.0 in
     record {
       events = es;
-      matches = admits edition.Vhdl93 whole_file (terminals_of_elements ls) es d.0;
-      derives = d.0;
-      shallow = λ n i. r.shallow n (subst (IsTooDeepAt n) (sym d.1) i);
+      matches = m.matches;
+      shallow = λ n i. r.shallow n (subst (IsTooDeepAt n) (sym d.1) (too_deep_derives edition.Vhdl93 whole_file ts es 0 n d.0 m.matches m.same i));
     }
 read_text bytes ls cut (misplaced n) h e = absurd (some_none (record { rule = Y1; at = offset_of (slice_get ls n) }) e)
 read_text bytes ls cut (too_deep n) h e = absurd (some_none (record { rule = Y2; at = offset_of (slice_get ls n) }) e)
 
 text_passes : (ls : List Lexeme) → IsText ls → (o : Outcome) → Told edition.Vhdl93 (terminals_of_elements ls) (starting_with (steps_for whole_file) 0) 0 o → judged ls o ≡ None
 text_passes ls t (reads es b) h = refl
-text_passes ls t (misplaced n) h = absurd (never_refused edition.Vhdl93 whole_file (terminals_of_elements ls) 0 n t.events t.derives h)
-text_passes ls t (too_deep n) h = absurd (t.shallow n (deep_in edition.Vhdl93 whole_file (terminals_of_elements ls) 0 n t.events t.derives h))
+text_passes ls t (misplaced n) h =
+    absurd (never_refused edition.Vhdl93 whole_file (terminals_of_elements ls) 0 n t.events (derives edition.Vhdl93 whole_file (terminals_of_elements ls) t.events t.matches) h)
+text_passes ls t (too_deep n) h =
+    let ts = terminals_of_elements ls in
+    let d = derived edition.Vhdl93 whole_file ts t.events 0 t.matches in
+    absurd (t.shallow n (too_deep_matches edition.Vhdl93 whole_file ts t.events 0 n d.derives t.matches d.same (deep_in edition.Vhdl93 whole_file ts 0 n t.events d.derives h)))
 
 refused_text : (ls : List Lexeme) (b : Broken) (o : Outcome) → parsed (terminals_of_elements ls) ≡ o → judged ls o ≡ Some b → IsNoText ls b
 refused_text ls b (reads es n) h e = absurd (none_some b e)
 refused_text ls b (misplaced n) h e =
-    let r = driven_refuses edition.Vhdl93 whole_file (terminals_of_elements ls) 0 n h in
-    subst (IsNoText ls) (same_broken (record { rule = Y1; at = offset_of (slice_get ls n) }) b e) (misplaced_at n (misplaced-of edition.Vhdl93 whole_file (terminals_of_elements ls) 0 n r) r)
+    let ts = terminals_of_elements ls in
+    subst (IsNoText ls) (same_broken (record { rule = Y1; at = offset_of (slice_get ls n) }) b e)
+    (misplaced_at n (misplaced-of edition.Vhdl93 whole_file ts 0 n (driven_refuses edition.Vhdl93 whole_file ts 0 n h)))
 refused_text ls b (too_deep n) h e =
-    subst (IsNoText ls) (same_broken (record { rule = Y2; at = offset_of (slice_get ls n) }) b e) (deep_at n (driven_deep edition.Vhdl93 whole_file (terminals_of_elements ls) 0 n h))
+    let ts = terminals_of_elements ls in
+    subst (IsNoText ls) (same_broken (record { rule = Y2; at = offset_of (slice_get ls n) }) b e)
+    (deep_at n (deep-of edition.Vhdl93 whole_file ts 0 n (driven_deep edition.Vhdl93 whole_file ts 0 n h)))
 
 -- what says that elements are no text says what the machine tells of them
 text_refused : (bytes : List ℕ) (ls : List Lexeme) → IsCutOf bytes ls → (b : Broken) → IsNoText ls b → (o : Outcome) → parsed (terminals_of_elements ls) ≡ o → judged ls o ≡ Some b
-text_refused bytes ls cut _ (misplaced_at n m r) (reads es b) h =
+text_refused bytes ls cut _ (misplaced_at n m) (reads es b) h =
     let ts = terminals_of_elements ls in
     let d = driven_reads edition.Vhdl93 whole_file ts 0 b es h in
     let none : drop b ts ≡ [] = all_derived bytes ls cut edition.Vhdl93 d.tokens (drop b ts) es d.derives d.between.split in
-    absurd (not_misplaced edition.Vhdl93 whole_file ts 0 n b es (sym (head-from ts b) ∙ ap head none) d r)
-text_refused bytes ls cut _ (misplaced_at n m r) (misplaced k) h =
+    absurd (read_whole edition.Vhdl93 whole_file ts 0 n b es (sym (head-from ts b) ∙ ap head none) (read-of edition.Vhdl93 whole_file ts 0 b es d) m)
+text_refused bytes ls cut _ (misplaced_at n m) (misplaced k) h =
     let ts = terminals_of_elements ls in
     ap (λ (i : ℕ). Some (record { rule = Y1; at = offset_of (slice_get ls i) }))
-    (one_misplaced edition.Vhdl93 whole_file ts 0 k n (driven_refuses edition.Vhdl93 whole_file ts 0 k h) r)
-text_refused bytes ls cut _ (misplaced_at n m r) (too_deep k) h =
+    (one_place edition.Vhdl93 whole_file ts 0 k n (misplaced-of edition.Vhdl93 whole_file ts 0 k (driven_refuses edition.Vhdl93 whole_file ts 0 k h)) m)
+text_refused bytes ls cut _ (misplaced_at n m) (too_deep k) h =
     let ts = terminals_of_elements ls in
-    absurd (apart edition.Vhdl93 whole_file ts 0 k n (driven_deep edition.Vhdl93 whole_file ts 0 k h) r)
+    absurd (not_both edition.Vhdl93 whole_file ts 0 k n (deep-of edition.Vhdl93 whole_file ts 0 k (driven_deep edition.Vhdl93 whole_file ts 0 k h)) m)
 text_refused bytes ls cut _ (deep_at n d) (reads es b) h =
     let ts = terminals_of_elements ls in
-    absurd (not_deep edition.Vhdl93 whole_file ts 0 n b es (driven_reads edition.Vhdl93 whole_file ts 0 b es h) d)
+    absurd (read_shallow edition.Vhdl93 whole_file ts 0 n b es (read-of edition.Vhdl93 whole_file ts 0 b es (driven_reads edition.Vhdl93 whole_file ts 0 b es h)) d)
 text_refused bytes ls cut _ (deep_at n d) (misplaced k) h =
     let ts = terminals_of_elements ls in
-    absurd (apart edition.Vhdl93 whole_file ts 0 n k d (driven_refuses edition.Vhdl93 whole_file ts 0 k h))
+    absurd (not_both edition.Vhdl93 whole_file ts 0 n k d (misplaced-of edition.Vhdl93 whole_file ts 0 k (driven_refuses edition.Vhdl93 whole_file ts 0 k h)))
 text_refused bytes ls cut _ (deep_at n d) (too_deep k) h =
     let ts = terminals_of_elements ls in
     ap (λ (i : ℕ). Some (record { rule = Y2; at = offset_of (slice_get ls i) }))
-    (one_deep edition.Vhdl93 whole_file ts 0 k n (driven_deep edition.Vhdl93 whole_file ts 0 k h) d)
+    (one_depth edition.Vhdl93 whole_file ts 0 k n (deep-of edition.Vhdl93 whole_file ts 0 k (driven_deep edition.Vhdl93 whole_file ts 0 k h)) d)
 
 judged_by : (file : List ℕ) (h : HasElements file) → syntax file ≡ judged h.elements (parsed (terminals_of_elements h.elements))
 unfolding syntax

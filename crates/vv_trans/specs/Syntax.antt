@@ -5,11 +5,9 @@ use Rattle.vv_vlex.specs.Elements.{Lexeme}
 use Rattle.vv_vlex.specs.Lexical.{Broken}
 use Rattle.vv_grammar.specs.declared.edition.Edition.TheVariants as edition
 use Rattle.vv_grammar.specs.declared.event.Event.{Event}
-use Rattle.vv_grammar_laws.specs.Derivations.{Derives}
-use Rattle.vv_grammar_laws.specs.Starts.{file, steps_for}
-use Rattle.vv_grammar_laws.specs.Readings.{IsShallow, IsRefusal, IsDeep}
+use Rattle.vv_grammar_laws.specs.Starts.{file}
 use Rattle.vv_productions.specs.Matches.{Matches, phrase_for}
-use Rattle.vv_productions.specs.Readings.{IsMisplaced}
+use Rattle.vv_productions.specs.Readings.{IsShallow, IsMisplaced, IsDeep}
 use Rattle.vv_grammar.specs.Terminals.{terminals_of_elements}
 use Rattle.vv_trans.specs.Parsing.{offset_of}
 
@@ -17,12 +15,10 @@ use Rattle.vv_trans.specs.Parsing.{offset_of}
 pub record IsText (elements : List Lexeme) : Type 0 where
   pub events : List Event
   pub matches : Matches edition.Vhdl93 (phrase_for file ∷ []) (terminals_of_elements elements) events
-  pub derives : Derives edition.Vhdl93 (steps_for file) (terminals_of_elements elements) events
-  pub shallow : IsShallow edition.Vhdl93 file (terminals_of_elements elements) events derives 0
+  pub shallow : IsShallow edition.Vhdl93 file (terminals_of_elements elements) events matches 0
 
 -- Which rule elements break that are no text, and where: with an element the ones before it are the start of no text any more, and nothing before it has to be
 -- too deep; or it is settled that what starts at an element is too deep, and nothing before it is. Only one of these holds, of one element.
 pub data IsNoText (elements : List Lexeme) : Broken → Type 0 where
-  misplaced_at : (n : ℕ) → IsMisplaced edition.Vhdl93 file (terminals_of_elements elements) 0 n → IsRefusal edition.Vhdl93 file (terminals_of_elements elements) 0 n
-      → IsNoText elements (record { rule = Y1; at = offset_of (slice_get elements n) })
+  misplaced_at : (n : ℕ) → IsMisplaced edition.Vhdl93 file (terminals_of_elements elements) 0 n → IsNoText elements (record { rule = Y1; at = offset_of (slice_get elements n) })
   deep_at : (n : ℕ) → IsDeep edition.Vhdl93 file (terminals_of_elements elements) 0 n → IsNoText elements (record { rule = Y2; at = offset_of (slice_get elements n) })

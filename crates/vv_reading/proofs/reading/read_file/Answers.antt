@@ -11,4 +11,4 @@ returns-then-next-tokens-clause-refused c =
     let told = c.in-Ok.ensures.read file refl in
     let lt : c.in-Ok.next < length (terminals_of ts) = rw (length-map ts (λ t. kind_of t.kind)) c.if-next-tokens.true in
     refused_as c.args.edition file ts 0 c.in-Ok.next c.place-span.result c.place-span.ensures
-    (left_over c.args.edition (terminals_of ts) 0 c.in-Ok.next told.events told.shallow lt)
+    (left_over c.args.edition (terminals_of ts) 0 c.in-Ok.next told.events told.read lt)
