@@ -71,7 +71,8 @@ pub enum Association<'a> {
 #[cycle(concurrents)]
 #[derive(Clone, Copy)]
 pub struct Conc<'a> {
-    node: &'a Box<ConcKind<'a>, &'a Bump<Global>>,
+    /// What it is.
+    pub node: &'a Box<ConcKind<'a>, &'a Bump<Global>>,
 }
 
 /// What a concurrent statement is.
@@ -129,7 +130,8 @@ pub enum ConcKind<'a> {
 impl<'a> Conc<'a> {
     /// What it is.
     pub fn kind(self) -> &'a ConcKind<'a>
-        ensures { conc_kind_tree result.now ≡ conc_tree self.entry }
+        ensures tree { conc_kind_tree result.now ≡ conc_tree self.entry }
+        ensures same { result.now ≡ self.entry.node.now.value }
     {
         self.node
     }

@@ -114,7 +114,8 @@ pub struct UseClause<'a> {
 #[cycle(declarations)]
 #[derive(Clone, Copy)]
 pub struct Decl<'a> {
-    node: &'a Box<DeclKind<'a>, &'a Bump<Global>>,
+    /// What it is.
+    pub node: &'a Box<DeclKind<'a>, &'a Bump<Global>>,
 }
 
 /// What a declaration is.
@@ -186,7 +187,8 @@ pub enum DeclKind<'a> {
 impl<'a> Decl<'a> {
     /// What it is.
     pub fn kind(self) -> &'a DeclKind<'a>
-        ensures { decl_kind_tree result.now ≡ decl_tree self.entry }
+        ensures tree { decl_kind_tree result.now ≡ decl_tree self.entry }
+        ensures same { result.now ≡ self.entry.node.now.value }
     {
         self.node
     }

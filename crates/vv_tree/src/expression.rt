@@ -12,7 +12,8 @@ use vv_base::fault::{Memory, Span};
 #[cycle(expressions)]
 #[derive(Clone, Copy)]
 pub struct Expr<'a> {
-    node: &'a Box<ExprKind<'a>, &'a Bump<Global>>,
+    /// What it is.
+    pub node: &'a Box<ExprKind<'a>, &'a Bump<Global>>,
 }
 
 /// What an expression is.
@@ -166,7 +167,8 @@ pub struct Operand<'a> {
 impl<'a> Expr<'a> {
     /// What it is.
     pub fn kind(self) -> &'a ExprKind<'a>
-        ensures { expr_kind_tree result.now ≡ expr_tree self.entry }
+        ensures tree { expr_kind_tree result.now ≡ expr_tree self.entry }
+        ensures same { result.now ≡ self.entry.node.now.value }
     {
         self.node
     }

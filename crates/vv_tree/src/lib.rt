@@ -5,5 +5,6 @@ pub mod concurrent;
 pub mod declaration;
 pub mod expression;
 pub mod leaf;
+pub mod span;
 pub mod statement;
 pub mod unit;

@@ -23,7 +23,8 @@ pub struct Assertion<'a> {
 #[cycle(statements)]
 #[derive(Clone, Copy)]
 pub struct Stmt<'a> {
-    node: &'a Box<StmtKind<'a>, &'a Bump<Global>>,
+    /// What it is.
+    pub node: &'a Box<StmtKind<'a>, &'a Bump<Global>>,
 }
 
 /// What a sequential statement is.
@@ -121,7 +122,8 @@ pub struct CaseArm<'a> {
 impl<'a> Stmt<'a> {
     /// What it is.
     pub fn kind(self) -> &'a StmtKind<'a>
-        ensures { stmt_kind_tree result.now ≡ stmt_tree self.entry }
+        ensures tree { stmt_kind_tree result.now ≡ stmt_tree self.entry }
+        ensures same { result.now ≡ self.entry.node.now.value }
     {
         self.node
     }
