@@ -1,23 +1,17 @@
 -- What follows from why a translation stopped, and from what was printed of it.
-use Rattle.std.proofs.Common.{◌≡◌, ◌≢◌, ◌⊎◌, inl, inr, ℕ, List, [], Option, Some, IsSomeAnd, map, sym, ◌∙◌, subst, arith}
+use Rattle.std.proofs.Common.{◌≡◌, ◌≢◌, ◌⊎◌, inl, inr, ℕ, List, [], Option, Some, None, map, refl, sym, ◌∙◌, subst, arith}
 use Rattle.std.proofs.lemmas.List.Elements.{All-get_or}
-use Rattle.std.specs.Prelude.{MatchOption}
-use Rattle.std.specs.Io.KnownBytes.{Appends}
+use Rattle.std.specs.Io.KnownBytes.{Appends, Keeps}
 use Rattle.vv_base.specs.Outside.{Told, Rose}
-use Rattle.vv_trans.specs.Translation.{Report, report, told}
+use Rattle.vv_trans.proofs.Ways.{reading_first}
+use Rattle.vv_trans.specs.Translation.{Report, reading, report, told, IsRefusal, misread, later}
 use Rattle.vv_top.specs.declared.run.Stop.{Stop}
 use Rattle.vv_top.specs.declared.run.Stop.TheVariants.{ReadFault, OutputFault, MapFault, Refused, Memory}
 use Rattle.vv_top.specs.Lines.{Announced, Cut, memory_line, report_line}
-use Rattle.vv_top.specs.Run.{RuleBroken, OfFiles, Saved, SavedPart}
+use Rattle.vv_top.specs.Run.{RuleBroken, BothHold, OfFiles, Saved, SavedPart}
 use Rattle.vv_top.specs.Stops.{Means, line_of, status_of}
 use Rattle.vv_top.specs.Top.{IsRefused, IsReadFault, IsSaveFault, IsStopped, NoFault, Accepts, Refuses, Translates}
 use Rattle.vv_top.specs.Words.{Wanted}
-
-is_some_and : {X : Type 0} (o : Option X) (x : X) (Q : X → Type 0) → o ≡ Some x → Q x → IsSomeAnd o Q
-is_some_and o x Q e q = rw e q
-
-match_some : {X : Type 0} (o : Option X) (x : X) (N : Type 0) (Q : X → Type 0) → o ≡ Some x → Q x → MatchOption o N Q
-match_some o x N Q e q = rw e q
 
 -- a status that is neither 4 nor 5 is the line's own, and the whole line stands
 put_whole : (line : List ℕ) (status result : ℕ) (was is : Option (List ℕ)) (before now : ℕ) → Announced line status result was is before now → result ≢ 4 → result ≢ 5 → (result ≡ status) × Appends was is line
@@ -41,7 +35,7 @@ put_at_4 line status result was is before now (inr (inr (inr p))) at4 = absurd (
 refused_of : (w : Wanted) (old new : List ℕ → Told) (bytes : List (List ℕ)) (r : Report) (P : List ℕ → Type 0) → RuleBroken w old new bytes r → P (report_line w.files bytes r) → IsRefused w old new P
 refused_of w old new bytes r P m p = record {
   same = m.same;
-  line = λ files told. subst (λ f. IsSomeAnd (report w.top f) (λ q. P (report_line w.files f q))) (sym (m.loaded files told)) (is_some_and (report w.top bytes) r (λ q. P (report_line w.files bytes q)) m.broken p);
+  line = λ files told. subst (λ f. (q : Report) × IsRefusal w.top f q × P (report_line w.files f q)) (sym (m.loaded files told)) (r, m.broken, p);
 }
 
 -- P of the line that tells why
@@ -106,6 +100,49 @@ not_4 w old new loads loaded saves saved stop result was is before now m a none 
       | inr p ↦ none.put p.0
     ]
 
+none_some : (r : Report) → None ≡ Some r → ⊥
+none_some r e = cc
+
+same_some : (a b : Report) → Some a ≡ Some b → a ≡ b
+same_some a b e = cc
+
+-- what is refused is no file of gates that breaks none of its conditions
+not_gates : (top : List ℕ) (files : List (List ℕ)) (r : Report) → IsRefusal top files r → ¬ (report top files ≡ None)
+not_gates top files r (misread e) = λ h. none_some r (sym h ∙ reading_first top files r e)
+not_gates top files r (later e h) = h
+
+-- what is refused where reading tells something is refused by that
+by_reading : (top : List ℕ) (files : List (List ℕ)) (r q : Report) → IsRefusal top files r → reading files ≡ Some q → r ≡ q
+by_reading top files r q (misread e) h = same_some r q (sym e ∙ h)
+by_reading top files r q (later e h) k = absurd (none_some q (sym e ∙ k))
+
+refuses_all : (w : Wanted) (files : List (List ℕ)) (r : Report) (status : ℕ) (held kept : List ℕ → Told) (was is : Option (List ℕ)) → Refuses w files r status held kept was is → Translates w files status held kept was is
+refuses_all w files r status held kept was is f = record {
+  gates = λ h. absurd (not_gates w.top files r f.refused h);
+  misread = λ q h. subst (λ (x : Report). Refuses w files x status held kept was is) (by_reading w.top files r q f.refused h) f;
+  others = inr (r, f);
+}
+
+-- a translation that was made and saved
+pub accepts_all : (w : Wanted) (files : List (List ℕ)) (status : ℕ) (held kept : List ℕ → Told) (was is : Option (List ℕ)) → Accepts w files status held kept was is → Translates w files status held kept was is
+accepts_all w files status held kept was is a = record {
+  gates = λ h. a;
+  misread = λ q h. absurd (none_some q (sym a.translated.read ∙ h));
+  others = inl a;
+}
+
+-- both stand under their names
+pub both_accept : (w : Wanted) (held kept : List ℕ → Told) (was is : Option (List ℕ)) → BothHold w held kept → Keeps was is → OfFiles w held (λ files. Translates w files 0 held kept was is)
+both_accept w held kept was is b k = λ files told. accepts_all w files 0 held kept was is (record {
+  answer = refl;
+  text = b.text;
+  lines = b.lines;
+  translated = b.translated files told;
+  output = b.output;
+  map = b.map;
+  silent = k;
+})
+
 -- with no fault a stop is a refusal, and the line is told
 translates_of : (w : Wanted) (old new : List ℕ → Told) (loads loaded saves saved : List ℕ → ℕ) (stop : Stop) (result : ℕ) (was is : Option (List ℕ)) (before now : ℕ) → Means w old new loads loaded saves saved stop → result ≡ status_of stop → Appends was is (line_of w stop) → NoFault w loads loaded saves saved before now → result ≢ 5 → OfFiles w old (λ files. Translates w files result old new was is)
 translates_of w old new loads loaded saves saved (ReadFault number) result was is before now m e p none not5 =
@@ -116,7 +153,7 @@ translates_of w old new loads loaded saves saved (Refused files refusal) result 
     let bytes : List (List ℕ) = map (λ file. file.items) files.items in
     let r = told refusal in
     λ told_files told. subst (λ f. Translates w f result old new was is) (sym (m.loaded told_files told))
-    (match_some (report w.top bytes) r (Accepts w bytes result old new was is) (λ q. Refuses w bytes q result old new was is) m.broken (record { answer = e; same = m.same; line = p }))
+    (refuses_all w bytes r result old new was is (record { answer = e; refused = m.broken; same = m.same; line = p }))
 translates_of w old new loads loaded saves saved Memory result was is before now m e p none not5 = absurd (not5 e)
 
 -- with no fault and no want of memory the bytes of the files settle what a stop comes to

@@ -1,5 +1,5 @@
 -- What the loads of all files gave.
-use Rattle.std.specs.Prelude.{◌≡◌, ℕ, ◌<◌, List, [], length, map, take, get_or, All, Option, Some, None, ⊤}
+use Rattle.std.specs.Prelude.{◌≡◌, ℕ, ◌<◌, List, [], length, take, get_or, All, Some, None, ⊤}
 use Rattle.std.specs.List.{AllZip}
 use Rattle.vv_base.specs.Outside.{Told, Gives, Rose}
 use Rattle.vv_top.specs.declared.loads.LoadStop.{LoadStop}

@@ -1,7 +1,7 @@
 -- What a translation does to the shelf.
-use Rattle.std.specs.Prelude.{◌≡◌, ℕ, List, map, Some, None, bytes_eq, false, ◌⊎◌}
+use Rattle.std.specs.Prelude.{◌≡◌, ℕ, List, map, Some, bytes_eq, false, ◌⊎◌}
 use Rattle.vv_base.specs.Outside.{Told, Rose, Holds, KeepsAll, KeepsOthers}
-use Rattle.vv_trans.specs.Translation.{Report, report, written, Stands}
+use Rattle.vv_trans.specs.Translation.{Report, IsTranslated, IsRefusal}
 use Rattle.vv_top.specs.Loads.{LoadFailed}
 use Rattle.vv_top.specs.Words.{Wanted}
 
@@ -17,49 +17,48 @@ AreTold held names files = map held names ≡ map (λ file. Some (Some file)) fi
 abbrev pub OfFiles : Wanted → (List ℕ → Told) → (List (List ℕ) → Type 0) → Type 0
 OfFiles w held P = (files : List (List ℕ)) → AreTold held w.files files → P files
 
--- the files break no rule
-abbrev pub Accepted : Wanted → (List ℕ → Told) → Type 0
-Accepted w old = OfFiles w old (λ files. report w.top files ≡ None)
+-- this text and this map are the translation of the files
+abbrev pub Translated : Wanted → (List ℕ → Told) → List ℕ → List ℕ → Type 0
+Translated w old text lines = OfFiles w old (λ files. IsTranslated w.top files text lines)
 
--- the text stands under OUT, where something was told of OUT
-abbrev pub OutputHolds : Wanted → (List ℕ → Told) → (List ℕ → Told) → Type 0
-OutputHolds w old new = OfFiles w old (λ files. Holds w.output (written files).text old new)
-
--- the map stands under MAP, where something was told of MAP
-abbrev pub MapHolds : Wanted → (List ℕ → Told) → (List ℕ → Told) → Type 0
-MapHolds w old new = OfFiles w old (λ files. Holds w.map (written files).map old new)
-
--- that text and that map stand for the files
-abbrev pub BothStand : Wanted → (List ℕ → Told) → Type 0
-BothStand w old = OfFiles w old (λ files. Stands w.top files (written files).text (written files).map)
+-- text and map of a translation stand under OUT and MAP, where something was told of these
+pub record BothHold (w : Wanted) (old new : List ℕ → Told) : Type 0 where
+  pub text : List ℕ
+  pub lines : List ℕ
+  pub translated : Translated w old text lines
+  pub output : Holds w.output text old new
+  pub map : Holds w.map lines old new
 
 -- a load of the file of this number failed, and nothing is saved
 pub record ReadFailed (w : Wanted) (number : ℕ) (old new : List ℕ → Told) (loads loaded : List ℕ → ℕ) : Type 0 where
   pub load : LoadFailed w.files number old loads loaded
   pub same : KeepsAll old new
 
--- These bytes break a rule. They are those of the files where they are told, and nothing is saved.
+-- These bytes are refused by a rule. They are those of the files where they are told, and nothing is saved.
 pub record RuleBroken (w : Wanted) (old new : List ℕ → Told) (bytes : List (List ℕ)) (r : Report) : Type 0 where
-  pub broken : report w.top bytes ≡ Some r
+  pub broken : IsRefusal w.top bytes r
   pub loaded : OfFiles w old (λ files. files ≡ bytes)
   pub same : KeepsAll old new
 
--- OUT is saved, and of every other name the same is told
+-- OUT holds the text of a translation, and of every other name the same is told
 pub record OutputSaved (w : Wanted) (old new : List ℕ → Told) : Type 0 where
-  pub accepted : Accepted w old
-  pub output : OutputHolds w old new
+  pub text : List ℕ
+  pub lines : List ℕ
+  pub translated : Translated w old text lines
+  pub output : Holds w.output text old new
   pub others : KeepsOthers w.output old new
 
 -- a save of OUT failed, and of every other name the same is told
 pub record OutputFailed (w : Wanted) (old new : List ℕ → Told) (saves saved : List ℕ → ℕ) : Type 0 where
-  pub accepted : Accepted w old
   pub rose : Rose (saves w.output) (saved w.output)
   pub others : KeepsOthers w.output old new
 
--- OUT is saved, a save of MAP failed, and of every other name the same is told
+-- OUT holds the text of a translation, a save of MAP failed, and of every other name the same is told
 pub record MapFailed (w : Wanted) (old new : List ℕ → Told) (saves saved : List ℕ → ℕ) : Type 0 where
-  pub accepted : Accepted w old
-  pub output : OutputHolds w old new
+  pub text : List ℕ
+  pub lines : List ℕ
+  pub translated : Translated w old text lines
+  pub output : Holds w.output text old new
   pub rose : Rose (saves w.map) (saved w.map)
   pub others : KeepsBut w.output w.map old new
 

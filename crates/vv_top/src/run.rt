@@ -2,9 +2,9 @@
 
 ghost use Rattle.std.specs.Prelude.{◌≡◌, ◌≤◌, ◌<◌, [], None, Some, OnOk, OnErr, IfOk, IfErr, length, map, get_or};
 ghost use Rattle.vv_base.specs.Outside.{KeepsAll, NoneFell};
-ghost use Rattle.vv_trans.specs.Translation.{bytes_of, report, told, written, ForRefused, Stands};
+ghost use Rattle.vv_trans.specs.Translation.{bytes_of, told, ForRefused, IsTranslated, IsRefusal};
 ghost use Rattle.vv_top.specs.Words.{wanted, IsLawful};
-ghost use Rattle.vv_top.specs.Run.{KeepsBut, OfFiles, OutputHolds, MapHolds, Accepted, BothStand, Saved};
+ghost use Rattle.vv_top.specs.Run.{KeepsBut, Translated, BothHold, Saved};
 ghost use Rattle.vv_top.specs.Stops.{Means, IsInside};
 
 use crate::loads::{LoadStop, load_all};
@@ -12,7 +12,8 @@ use crate::words::Command;
 use std::alloc::{AllocError, Global};
 use vv_base::fault::{Fault, Refusal};
 use vv_base::shelf::{SaveFault, Shelf};
-use vv_trans::translate::{Out, translate};
+use vv_trans::out::Out;
+use vv_trans::translate::translate;
 
 /// Why a translation stopped.
 #[derive(Drop)]
@@ -43,16 +44,10 @@ fn slices(alloc: Global, files: &[Vec<u8>]) -> Result<Vec<&[u8]>, AllocError>
 /// Text and map of files that are loaded, or the rule that they break first.
 fn translate_loaded(alloc: Global, files: &[Vec<u8>], top: &str) -> Result<Out, Fault>
     requires { length files.now ≤ 255 }
-    ensures accepted { IfOk result (λ out.
-        report top.now (map (λ file. file.items) files.now) ≡ None) }
-    ensures text { IfOk result (λ out.
-        out.text ≡ (written (map (λ file. file.items) files.now)).text) }
-    ensures map { IfOk result (λ out.
-        out.map ≡ (written (map (λ file. file.items) files.now)).map) }
-    ensures stands { IfOk result (λ out.
-        Stands top.now (map (λ file. file.items) files.now) out.text out.map) }
+    ensures translated { IfOk result (λ out.
+        IsTranslated top.now (map (λ file. file.items) files.now) out.text out.map) }
     ensures refused { IfErr result (λ fault. ForRefused fault (λ r.
-        report top.now (map (λ file. file.items) files.now) ≡ Some (told r))) }
+        IsRefusal top.now (map (λ file. file.items) files.now) (told r))) }
     ensures file { IfErr result (λ fault. ForRefused fault (λ r.
         0 < length files.now → r.span.file < length files.now)) }
     ensures inside { IfErr result (λ fault. ForRefused fault (λ r.
@@ -72,12 +67,8 @@ fn translate_files<D: Shelf>(
     ensures loads { NoneFell (D.failed_loads shelf.old) (D.failed_loads shelf.new) }
     ensures saves { NoneFell (D.failed_saves shelf.old) (D.failed_saves shelf.new) }
     ensures held { KeepsAll (D.held shelf.old) (D.held shelf.new) }
-    ensures accepted { OnOk result (Accepted (wanted command.now) (D.held shelf.old)) }
-    ensures text { IfOk result (λ out. OfFiles (wanted command.now) (D.held shelf.old)
-        (λ files. out.text ≡ (written files).text)) }
-    ensures map { IfOk result (λ out. OfFiles (wanted command.now) (D.held shelf.old)
-        (λ files. out.map ≡ (written files).map)) }
-    ensures stands { OnOk result (BothStand (wanted command.now) (D.held shelf.old)) }
+    ensures translated { IfOk result (λ out.
+        Translated (wanted command.now) (D.held shelf.old) out.text out.map) }
     ensures stopped { IfErr result
         (Means (wanted command.now) (D.held shelf.old) (D.held shelf.new)
         (D.failed_loads shelf.old) (D.failed_loads shelf.new)
@@ -103,12 +94,7 @@ pub fn run<D: Shelf>(alloc: Global, command: &Command<'_>, shelf: &mut D) -> Res
     ensures saves { NoneFell (D.failed_saves shelf.old) (D.failed_saves shelf.new) }
     ensures others { KeepsBut command.now.output.now command.now.map.now
         (D.held shelf.old) (D.held shelf.new) }
-    ensures accepted { OnOk result (Accepted (wanted command.now) (D.held shelf.old)) }
-    ensures output { OnOk result
-        (OutputHolds (wanted command.now) (D.held shelf.old) (D.held shelf.new)) }
-    ensures map { OnOk result
-        (MapHolds (wanted command.now) (D.held shelf.old) (D.held shelf.new)) }
-    ensures stands { OnOk result (BothStand (wanted command.now) (D.held shelf.old)) }
+    ensures both { OnOk result (BothHold (wanted command.now) (D.held shelf.old) (D.held shelf.new)) }
     ensures stopped { IfErr result
         (Means (wanted command.now) (D.held shelf.old) (D.held shelf.new)
         (D.failed_loads shelf.old) (D.failed_loads shelf.new)

@@ -8,3 +8,4 @@ pub mod Lexed
 pub mod Arms
 pub mod Tokens
 pub mod Parsed
+pub mod Ways

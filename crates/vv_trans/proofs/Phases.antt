@@ -22,7 +22,7 @@ one_err b d e h k = cc
 pub same_report : (a b : Report) → Some a ≡ Some b → a ≡ b
 same_report a b e = cc
 
-some_none : (r : Report) → Some r ≡ None → ⊥
+pub some_none : (r : Report) → Some r ≡ None → ⊥
 some_none r e = cc
 
 -- a file that has elements is within the limit and is cut

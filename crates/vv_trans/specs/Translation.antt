@@ -84,7 +84,12 @@ gates top [] = Some (record { rule = Y1; file = 0; at = 0 })
 gates top (file ∷ []) = gate_report (folded top) (reading_of file)
 gates top (file ∷ second ∷ more) = Some (record { rule = Y1; file = 1; at = 0 })
 
--- the rule that files break first, if they break one: the first phase with a broken rule reports
+-- the rule of reading that files break first, if they break one: limits and elements of all files, and then the syntax of all
+unfoldable pub reading : List (List ℕ) → Option Report
+reading files = option_or (lexing 0 files) (parsing 0 files)
+
+-- The rule that files break first as files of gates, if they break one: the first phase with a broken rule reports. Where there is none, there is one file, a
+-- text of the grammar of gates that breaks none of its conditions.
 unfoldable pub report : List ℕ → List (List ℕ) → Option Report
 report top files = option_or (lexing 0 files) (option_or (parsing 0 files) (gates top files))
 
@@ -118,6 +123,17 @@ pub record IsTranslation (top file text lines : List ℕ) : Type 0 where
 -- there is one file, for which text and map stand; as one fact that callers hand on
 unfoldable pub Stands : List ℕ → List (List ℕ) → List ℕ → List ℕ → Type 0
 Stands top files text lines = (file : List ℕ) × (files ≡ file ∷ []) × IsTranslation top file text lines
+
+-- What text and map are of files that are translated: the files break no rule of reading, and where there is one file of gates that breaks none of its
+-- conditions, text and map stand for it.
+pub record IsTranslated (top : List ℕ) (files : List (List ℕ)) (text lines : List ℕ) : Type 0 where
+  pub read : reading files ≡ None
+  pub gates : report top files ≡ None → Stands top files text lines
+
+-- What the refusal of files tells: the rule of reading that they break first; or they break none, and are not one file of gates that breaks none of its conditions.
+pub data IsRefusal (top : List ℕ) (files : List (List ℕ)) (r : Report) : Type 0 where
+  misread : reading files ≡ Some r → IsRefusal top files r
+  later : reading files ≡ None → (¬ (report top files ≡ None)) → IsRefusal top files r
 
 -- the file is within the limit and is cut into elements
 pub record HasElements (file : List ℕ) : Type 0 where

@@ -14,10 +14,12 @@ ghost use Rattle.vv_gate_text.specs.Names.{mangled};
 ghost use Rattle.vv_gate_text.specs.Text.{text_of};
 ghost use Rattle.vv_trans.specs.Parsing.{judged, offset_of, parsed, syntax};
 ghost use Rattle.vv_vlex.specs.Elements.{lexeme_of};
-ghost use Rattle.vv_trans.specs.Translation.{bytes_of, folded, gate_report, lexing, parsing, reading_of, report, told, written, written_of, ForRefused, IsTranslation, Stands, Report, IsReport};
+ghost use Rattle.vv_trans.specs.Translation.{bytes_of, folded, gate_report, lexing, parsing, reading_of, report, told, written_of, ForRefused, IsTranslation, IsTranslated, IsRefusal, Stands, Report, IsReport};
 ghost use Rattle.vv_vast.specs.Flat.{Flat, FlatDesign};
 ghost use Rattle.vv_vast.specs.Grammar.{VerilogText};
 
+use crate::out::Out;
+use crate::whole::written;
 use std::alloc::Global;
 use vv_base::fault::{Fault, Refusal, Rule, Span};
 use vv_base::text::ByteList;
@@ -32,13 +34,6 @@ use vv_grammar::terminal::{Terminal, terminals_of_elements};
 use vv_machine::machine::{Stop, run};
 use vv_vlex::element::Lexeme;
 use vv_vlex::lexer::elements;
-
-/// The Verilog text and the map of names.
-#[derive(Drop)]
-pub struct Out {
-    pub text: ByteList,
-    pub map: ByteList,
-}
 
 /// A refusal at a place of a file.
 fn refused(rule: Rule, file: u32, at: usize) -> Fault
@@ -198,6 +193,51 @@ fn translate_gates(alloc: Global, file: &[u8], top: &str) -> Result<Out, Fault>
     }
 }
 
+/// The first path: one file of gates is read and checked. Where there are more files, the second one is `Y1` at its start, and no file at
+/// all is `Y1` at the start of the first.
+fn first_path(alloc: Global, files: &[&[u8]], top: &str) -> Result<Out, Fault>
+    requires few { length files.now ≤ 255 }
+    requires lexed { lexing 0 (bytes_of files.now) ≡ None }
+    requires parsed { parsing 0 (bytes_of files.now) ≡ None }
+    ensures stands { IfOk result (λ out. Stands top.now (bytes_of files.now) out.text out.map) }
+    ensures refused { IfErr result (λ fault. ForRefused fault (λ r. report top.now (bytes_of files.now) ≡ Some (told r))) }
+{
+    match files {
+        [] => Err(refused(Rule::Y1, 0, 0)),
+        [file] => translate_gates(alloc, file, top),
+        [_, _, ..] => Err(refused(Rule::Y1, 1, 0)),
+    }
+}
+
+/// A refusal as it is, where its place lies in one of the files. Each phase tells places of the files alone, so there is no other.
+fn within(files: &[&[u8]], refusal: Refusal) -> Fault
+    ensures same { ForRefused result (λ r. r ≡ refusal) }
+    ensures file { ForRefused result (λ r. r.span.file < length files.now) }
+    ensures inside { ForRefused result (λ r. r.span.at ≤ length (get_or (bytes_of files.now) r.span.file [])) }
+{
+    match files.get(refusal.span.file as usize) {
+        Some(file) if refusal.span.at as usize <= file.len() => Fault::Refused(refusal),
+        _ => Fault::Memory,
+    }
+}
+
+/// The way of all files that are no file of gates: the phases over their units, and the writer. `first` is what the first path tells of them.
+fn whole_path(alloc: Global, files: &[&[u8]], top: &str, first: Refusal) -> Result<Out, Fault>
+    requires lexed { lexing 0 (bytes_of files.now) ≡ None }
+    requires parsed { parsing 0 (bytes_of files.now) ≡ None }
+    requires first { report top.now (bytes_of files.now) ≡ Some (told first) }
+    ensures translated { IfOk result (λ out. IsTranslated top.now (bytes_of files.now) out.text out.map) }
+    ensures refused { IfErr result (λ fault. ForRefused fault (λ r. IsRefusal top.now (bytes_of files.now) (told r))) }
+    ensures file { IfErr result (λ fault. ForRefused fault (λ r. r.span.file < length files.now)) }
+    ensures inside { IfErr result (λ fault. ForRefused fault (λ r. r.span.at ≤ length (get_or (bytes_of files.now) r.span.file []))) }
+{
+    match written(alloc, files, top, first) {
+        Ok(out) => Ok(out),
+        Err(Fault::Refused(refusal)) => Err(within(files, refusal)),
+        Err(Fault::Memory) => Err(Fault::Memory),
+    }
+}
+
 /// The translation of the files, or the rule that they break first, with the file and the place. The letter case of `top`
 /// is folded.
 ///
@@ -205,17 +245,12 @@ fn translate_gates(alloc: Global, file: &[u8], top: &str) -> Result<Out, Fault>
 ///
 /// 1. The limit and the lexical elements of every file. The first file that breaks one of `L1` and `X1` to `X5` is told.
 /// 2. The syntax of every file. The first file that breaks `Y1` or `Y2` is told.
-/// 3. The gates: one file alone is read and checked. Where there are more, the second one is `Y1` at its start, and
-///    no file at all is `Y1` at the start of the first.
-///
-/// A phase over the syntax of all files goes between the two.
+/// 3. One file of gates that breaks none of its conditions is translated at once.
+/// 4. All other files go through names and types, elaboration, templates and drivers.
 pub fn translate(alloc: Global, files: &[&[u8]], top: &str) -> Result<Out, Fault>
     requires { length files.now ≤ 255 }
-    ensures accepted { IfOk result (λ out. report top.now (bytes_of files.now) ≡ None) }
-    ensures text { IfOk result (λ out. out.text ≡ (written (bytes_of files.now)).text) }
-    ensures map { IfOk result (λ out. out.map ≡ (written (bytes_of files.now)).map) }
-    ensures stands { IfOk result (λ out. Stands top.now (bytes_of files.now) out.text out.map) }
-    ensures refused { IfErr result (λ fault. ForRefused fault (λ r. report top.now (bytes_of files.now) ≡ Some (told r))) }
+    ensures translated { IfOk result (λ out. IsTranslated top.now (bytes_of files.now) out.text out.map) }
+    ensures refused { IfErr result (λ fault. ForRefused fault (λ r. IsRefusal top.now (bytes_of files.now) (told r))) }
     ensures file { IfErr result (λ fault. ForRefused fault (λ r. 0 < length files.now → r.span.file < length files.now)) }
     ensures inside { IfErr result (λ fault. ForRefused fault (λ r. r.span.at ≤ length (get_or (bytes_of files.now) r.span.file []))) }
 {
@@ -225,9 +260,9 @@ pub fn translate(alloc: Global, files: &[&[u8]], top: &str) -> Result<Out, Fault
     if let Err(fault) = parse_files(alloc, files) {
         return Err(fault);
     }
-    match files {
-        [] => Err(refused(Rule::Y1, 0, 0)),
-        [file] => translate_gates(alloc, file, top),
-        [_, _, ..] => Err(refused(Rule::Y1, 1, 0)),
+    match first_path(alloc, files, top) {
+        Ok(out) => Ok(out),
+        Err(Fault::Memory) => Err(Fault::Memory),
+        Err(Fault::Refused(first)) => whole_path(alloc, files, top, first),
     }
 }

@@ -1,42 +1,21 @@
-use Rattle.std.proofs.Common.{◌≡◌, ◌<◌, ◌≤◌, ℕ, List, [], None, Some, get_or, length, map, refl, ap, arith}
+use Rattle.std.proofs.Common.{◌≡◌, ◌<◌, ◌≤◌, ℕ, List, [], get_or, length, map, refl, ap, arith}
 use Rattle.std.proofs.lemmas.List.{length-map}
-use Rattle.vv_trans.specs.Translation.{report, told, written, Stands}
+use Rattle.vv_trans.specs.Translation.{told, IsTranslated, IsRefusal}
 use Rattle.vv_top.specs.Words.{wanted}
 use Rattle.vv_top.proofs.Loaded.{of_files, place_of}
 use Rattle.vv_top.proofs.run.translate_files.Goals as goal
 
-pub returns-in-Ok-translate_loaded-clause-accepted : goal.returns-in-Ok-translate_loaded-clause-accepted
-returns-in-Ok-translate_loaded-clause-accepted g c =
-    let bytes : List (List ℕ) = map (λ file. file.items) c.in-Ok.files.items in
-    let here : report c.args.command.now.top.now bytes ≡ None = rw (← c.as_slice.ensures.value) c.in-Ok-translate_loaded.ensures.accepted in
-    of_files (wanted c.args.command.now) (g.D.Shelf.held c.args.shelf.now) bytes (λ files. report c.args.command.now.top.now files ≡ None) c.in-Ok.ensures.loaded here
-
-pub returns-in-Ok-translate_loaded-clause-text : goal.returns-in-Ok-translate_loaded-clause-text
-returns-in-Ok-translate_loaded-clause-text g c =
-    let bytes : List (List ℕ) = map (λ file. file.items) c.in-Ok.files.items in
-    let here : c.in-Ok-translate_loaded.out.text ≡ (written bytes).text = rw (← c.as_slice.ensures.value) c.in-Ok-translate_loaded.ensures.text in
-    of_files (wanted c.args.command.now) (g.D.Shelf.held c.args.shelf.now) bytes (λ files. c.in-Ok-translate_loaded.out.text ≡ (written files).text) c.in-Ok.ensures.loaded here
-
-pub returns-in-Ok-translate_loaded-clause-map : goal.returns-in-Ok-translate_loaded-clause-map
-returns-in-Ok-translate_loaded-clause-map g c =
-    let bytes : List (List ℕ) = map (λ file. file.items) c.in-Ok.files.items in
-    let here : c.in-Ok-translate_loaded.out.map ≡ (written bytes).map = rw (← c.as_slice.ensures.value) c.in-Ok-translate_loaded.ensures.map in
-    of_files (wanted c.args.command.now) (g.D.Shelf.held c.args.shelf.now) bytes (λ files. c.in-Ok-translate_loaded.out.map ≡ (written files).map) c.in-Ok.ensures.loaded here
-
-pub returns-in-Ok-translate_loaded-clause-stands : goal.returns-in-Ok-translate_loaded-clause-stands
-returns-in-Ok-translate_loaded-clause-stands g c =
+pub returns-in-Ok-translate_loaded-clause-translated : goal.returns-in-Ok-translate_loaded-clause-translated
+returns-in-Ok-translate_loaded-clause-translated g c =
     let top = c.args.command.now.top.now in
     let bytes : List (List ℕ) = map (λ file. file.items) c.in-Ok.files.items in
-    let text : c.in-Ok-translate_loaded.out.text ≡ (written bytes).text = rw (← c.as_slice.ensures.value) c.in-Ok-translate_loaded.ensures.text in
-    let lines : c.in-Ok-translate_loaded.out.map ≡ (written bytes).map = rw (← c.as_slice.ensures.value) c.in-Ok-translate_loaded.ensures.map in
-    let both : Stands top bytes c.in-Ok-translate_loaded.out.text c.in-Ok-translate_loaded.out.map = rw (← c.as_slice.ensures.value) c.in-Ok-translate_loaded.ensures.stands in
-    let here : Stands top bytes (written bytes).text (written bytes).map = rw (← text, ← lines) both in
-    of_files (wanted c.args.command.now) (g.D.Shelf.held c.args.shelf.now) bytes (λ files. Stands top files (written files).text (written files).map) c.in-Ok.ensures.loaded here
+    let here : IsTranslated top bytes c.in-Ok-translate_loaded.out.text c.in-Ok-translate_loaded.out.map = rw (← c.as_slice.ensures.value) c.in-Ok-translate_loaded.ensures.translated in
+    of_files (wanted c.args.command.now) (g.D.Shelf.held c.args.shelf.now) bytes (λ files. IsTranslated top files c.in-Ok-translate_loaded.out.text c.in-Ok-translate_loaded.out.map) c.in-Ok.ensures.loaded here
 
 pub returns-in-Err-Refused-clause-stopped : goal.returns-in-Err-Refused-clause-stopped
 returns-in-Err-Refused-clause-stopped g c =
     let bytes : List (List ℕ) = map (λ file. file.items) c.in-Ok.files.items in
-    let here : report c.args.command.now.top.now bytes ≡ Some (told c.in-Err-Refused.refusal) = rw (← c.as_slice.ensures.value) (rw c.in-Err-Refused.field-0-is at c.in-Err-Refused.ensures.refused) in
+    let here : IsRefusal c.args.command.now.top.now bytes (told c.in-Err-Refused.refusal) = rw (← c.as_slice.ensures.value) (rw c.in-Err-Refused.field-0-is at c.in-Err-Refused.ensures.refused) in
     record {
       broken = here;
       loaded = of_files (wanted c.args.command.now) (g.D.Shelf.held c.args.shelf.now) bytes (λ files. files ≡ bytes) c.in-Ok.ensures.loaded refl;
