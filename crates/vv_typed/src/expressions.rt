@@ -1,9 +1,8 @@
 //! Typed expressions.
 
-use crate::statements::TStmtList;
 use sqlite_items::{Boxed, Items};
 use vv_base::fault::Span;
-use vv_types::{BaseType, Bounds, NumFn, Op, StdFn, Subtype, Value};
+use vv_types::{BaseType, NumFn, Op, StdFn};
 
 /// An expression with its type. Its span is that of the whole written expression.
 #[cycle(typed)]
@@ -14,8 +13,7 @@ pub struct Typed {
     pub span: Span,
 }
 
-/// The form of an expression, with its parts in the order of the text. Declarations have their numbers. In a design the objects that
-/// are left are nets and variables, and an expression whose value elaboration has found is a `Value`.
+/// The form of an expression, with its parts in the order of the text. Declarations have their numbers.
 #[cycle(typed)]
 #[derive(Drop)]
 pub enum Form {
@@ -31,13 +29,8 @@ pub enum Form {
     /// A bit string literal: the position of each digit among the literals of the element type, leftmost first.
     BitString(NumberList),
 
-    /// An object by its declaration, in checked units.
+    /// An object by its declaration.
     Object(u32),
-    /// A net by its number, in a design.
-    Net(u32),
-    /// A variable by its number, in a design. In a process it is the number in the list of its variables. In a called function the
-    /// parameters come first, and then the locals.
-    Variable(u32),
     /// An identifier that is a literal of an enumeration type: its declaration, and its position from 0.
     Literal {
         decl: u32,
@@ -46,7 +39,7 @@ pub enum Form {
     /// A type or a subtype, as the prefix of an attribute or as a range.
     Mark(TypeMark),
     /// A call of a function. `args` are in the order of the text, and `formals` has the number of the parameter of each of them,
-    /// from 0. In a design the defaults of the other parameters come behind them.
+    /// from 0. A parameter that has none of them takes its default.
     Call {
         callee: Callee,
         formals: NumberList,
@@ -143,18 +136,10 @@ pub enum Form {
     },
     Parenthesis(Boxed<Typed>),
     Aggregate(ElementList),
-
-    /// A value that elaboration has put there. An array has the bounds of its indexes, and an array of arrays those of its elements
-    /// behind them. The list is empty for a scalar.
-    Value {
-        value: Value,
-        bounds: BoundsList,
-    },
 }
 
 /// What an operator or a call names.
-#[cycle(typed)]
-#[derive(Drop)]
+#[derive(Clone, Copy, Debug, PartialEq, Eq)]
 pub enum Callee {
     /// A predefined operator without an integer result, or a logical operator of `std_logic_1164`.
     Standard(StdFn),
@@ -163,26 +148,8 @@ pub enum Callee {
     /// A predefined operator on integers with an integer result. Or a predefined ordering of `std_ulogic` or of arrays, which has no
     /// value.
     Predefined(Op),
-    /// A user function by its declaration, in checked units.
+    /// A user function by its declaration.
     User(u32),
-    /// A user function in a design: its declaration, the subtype of each parameter at this call, the subtype of its result where that
-    /// has bounds, its declared variables and constants, and its statements.
-    Elaborated {
-        decl: u32,
-        params: SubtypeList,
-        result: Option<Subtype>,
-        locals: LocalList,
-        body: TStmtList,
-    },
-}
-
-/// A variable, or a constant whose value is not static, that a function declares. It starts at `initial` in each call.
-#[cycle(typed)]
-#[derive(Drop)]
-pub struct Local {
-    pub span: Span,
-    pub subtype: Subtype,
-    pub initial: Typed,
 }
 
 /// An operator and its right operand, behind the operands before it. `base` and `span` are of what these operands give together.
@@ -228,8 +195,8 @@ pub enum TRange {
         mark: TypeMark,
         range: Boxed<TRange>,
     },
-    /// The choice `others`. No slice and no loop has it.
-    Others,
+    /// The choice `others`, with its place. No slice and no loop has it.
+    Others(Span),
 }
 
 /// An element of an aggregate. It stands by its position where there are no choices.
@@ -240,11 +207,10 @@ pub struct Element {
     pub value: Typed,
 }
 
-/// A type or a subtype by its declaration. In a design it has its subtype, but for an array type without bounds.
-#[derive(Drop)]
+/// A type or a subtype by its declaration.
+#[derive(Clone, Copy, Debug, PartialEq, Eq)]
 pub struct TypeMark {
     pub decl: u32,
-    pub subtype: Option<Subtype>,
 }
 
 pub type TypedList = Items<Typed>;
@@ -257,10 +223,4 @@ pub type TRangeList = Items<TRange>;
 
 pub type ElementList = Items<Element>;
 
-pub type LocalList = Items<Local>;
-
 pub type NumberList = Items<u32>;
-
-pub type BoundsList = Items<Bounds>;
-
-pub type SubtypeList = Items<Subtype>;

@@ -5,7 +5,7 @@ use sqlite_items::Items;
 use vv_base::fault::Span;
 
 /// A statement. Its span begins at its first token.
-#[cycle(typed)]
+#[cycle(statements)]
 #[derive(Drop)]
 pub struct TStmt {
     pub form: StmtForm,
@@ -13,7 +13,7 @@ pub struct TStmt {
 }
 
 /// The form of a statement, with its parts in the order of the text. A condition that is not written is the value TRUE.
-#[cycle(typed)]
+#[cycle(statements)]
 #[derive(Drop)]
 pub enum StmtForm {
     SignalAssignment {
@@ -33,7 +33,7 @@ pub enum StmtForm {
         selector: Typed,
         alternatives: AlternativeList,
     },
-    /// A loop over a range, with the declaration of its parameter. A design has none: it has the copies of the body in its place.
+    /// A loop over a range, with the declaration of its parameter.
     For {
         turn: u32,
         range: TRange,
@@ -60,7 +60,7 @@ pub enum StmtForm {
 }
 
 /// A condition of an `if`, and its statements.
-#[cycle(typed)]
+#[cycle(statements)]
 #[derive(Drop)]
 pub struct Arm {
     pub condition: Typed,
@@ -68,7 +68,7 @@ pub struct Arm {
 }
 
 /// The choices of a `case`, and their statements.
-#[cycle(typed)]
+#[cycle(statements)]
 #[derive(Drop)]
 pub struct Alternative {
     pub choices: TRangeList,

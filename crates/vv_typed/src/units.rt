@@ -6,11 +6,12 @@ use sqlite_items::Items;
 use vv_base::fault::{Name, Span};
 use vv_types::{BaseType, ObjectKind, TextList};
 
-/// The checked units. `texts` has the text of each name by its number. A package stands behind those that it needs, and the built-in
+/// The checked units. Declarations have the numbers below `decls`. `texts` has the text of each name by its number. A package stands behind those that it needs, and the built-in
 /// packages stand first. `functions` and `components` have those of all units, wherever they are declared, in the order of the numbers
 /// of their declarations.
 #[derive(Drop)]
 pub struct Units {
+    pub decls: u32,
     pub texts: TextList,
     pub packages: TPackageList,
     pub functions: FnBodyList,
@@ -111,10 +112,11 @@ pub enum TypeForm {
     Constrained { index: TRange, element: TSub },
 }
 
-/// A function with its body. The span is that of its identifier.
+/// A function with its body. The name is an identifier, or a symbol of an operator in quotes, and the span is that of it.
 #[derive(Drop)]
 pub struct FnBody {
     pub decl: u32,
+    pub name: Name,
     pub span: Span,
     pub params: ObjectsList,
     pub result: TypeMark,

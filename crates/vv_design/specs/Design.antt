@@ -1,16 +1,17 @@
 -- The design: the elements of nets, the sources of an element, and which instances are alike.
-use Rattle.std.specs.Prelude.{ℕ, ◌+◌, ◌*◌, ◌<◌, ◌≤◌, ◌≡◌, ◌↔◌, ◌&&◌, Bool, true, false, List, map, Option, Some, None, nat_eq, slice_get}
+use Rattle.std.specs.Prelude.{ℕ, ◌+◌, ◌*◌, ◌<◌, ◌≤◌, ◌≡◌, ◌↔◌, ◌&&◌, Bool, true, false, List, map, Option, Some, None, nat_eq, nat_le, nat_lt, slice_get}
 use Rattle.std.specs.List.{filter}
 use Rattle.vv_types.specs.Subtype.{index_count}
 use Rattle.vv_types.specs.declared.base.Subtype.{Subtype, fold-Subtype}
 use Rattle.vv_types.specs.declared.base.Subtype.TheOpen.{Subtype-F}
 use Rattle.vv_types.specs.declared.base.Subtype.TheOpen as s
-use Rattle.vv_typed.specs.declared.design.Design.{Design}
-use Rattle.vv_typed.specs.declared.design.Inst.{Inst}
-use Rattle.vv_typed.specs.declared.design.Net.{Net}
-use Rattle.vv_typed.specs.declared.design.NetKind.{NetKind}
-use Rattle.vv_typed.specs.declared.design.NetKind.TheVariants as n
-use Rattle.vv_typed.specs.declared.design.Source.{Source}
+use Rattle.vv_design.specs.declared.design.Design.{Design}
+use Rattle.vv_design.specs.declared.design.Inst.{Inst}
+use Rattle.vv_design.specs.declared.design.Net.{Net}
+use Rattle.vv_design.specs.declared.design.NetKind.{NetKind}
+use Rattle.vv_design.specs.declared.design.NetKind.TheVariants as n
+use Rattle.vv_design.specs.declared.design.Source.{Source}
+use Rattle.vv_design.specs.declared.run.Run.{Run}
 
 abbrev pub element_count_step : Subtype-F ℕ → ℕ
 element_count_step (s.Scalar base left right down count) = 1
@@ -24,9 +25,13 @@ element_count t = fold-Subtype ℕ element_count_step t
 abbrev pub HasElement : Net → ℕ → Type 0
 HasElement net e = (net.first ≤ e) × (e < net.first + element_count net.subtype)
 
+-- whether an element is one of a run
+abbrev pub covers : Run → ℕ → Bool
+covers run e = nat_le run.first e && nat_lt e (run.first + run.len)
+
 -- the sources of an element, on all levels
 abbrev pub sources_of : Design → ℕ → List Source
-sources_of d e = filter (λ source. nat_eq source.elem e) d.sources
+sources_of d e = filter (λ source. covers source.run e) d.sources
 
 -- the net that a port is joined with
 abbrev pub actual_of : NetKind → Option ℕ

@@ -2,11 +2,11 @@
 use Rattle.std.specs.Prelude.{Bool, true, false, List, []}
 use Rattle.vv_bits.specs.declared.nine.S9.{S9}
 use Rattle.vv_bits.specs.declared.nine.S9.TheVariants.{Zero, One, U as Unset}
-use Rattle.vv_typed.specs.declared.plan.Class.{Class}
-use Rattle.vv_typed.specs.declared.plan.Class.TheVariants as c
-use Rattle.vv_typed.specs.declared.plan.Kind.{Kind}
-use Rattle.vv_typed.specs.declared.plan.Kind.TheVariants as k
-use Rattle.vv_typed.specs.declared.plan.Control.{Control}
+use Rattle.vv_design.specs.declared.plan.Class.{Class}
+use Rattle.vv_design.specs.declared.plan.Class.TheVariants as c
+use Rattle.vv_design.specs.declared.plan.Kind.{Kind}
+use Rattle.vv_design.specs.declared.plan.Kind.TheVariants as k
+use Rattle.vv_design.specs.declared.plan.Control.{Control}
 
 -- '1' or '0'
 abbrev pub level_of : Bool → S9

@@ -1,7 +1,7 @@
 //! The plan of a design: the kind of each process, the class of each input, and an order of the elements.
 
 ghost use Rattle.std.specs.Prelude.{◌≡◌};
-ghost use Rattle.vv_typed.specs.Plan.{controls_of, start_of};
+ghost use Rattle.vv_design.specs.Plan.{controls_of, start_of};
 
 use sqlite_items::Items;
 use vv_bits::S9;

@@ -1,0 +1,8 @@
+//! The tokens of a Verilog text.
+#![tactic(auto)]
+
+mod lexer;
+mod signs;
+pub mod token;
+
+pub use lexer::tokens;
