@@ -46,12 +46,47 @@ fn translates_a_gate(rt: HostRuntime) -> Result<(), Fail> {
 }
 
 #[test]
+fn translates_designs(rt: HostRuntime) -> Result<(), Fail> {
+    let alloc = rt.alloc();
+    let counter = "library ieee; use ieee.std_logic_1164.all; use ieee.numeric_std.all;\n\
+         entity count is port (clk, en : in std_logic; q : out unsigned(3 downto 0)); end;\n\
+         architecture r of count is signal n : unsigned(3 downto 0); begin\n\
+         process (clk) begin if rising_edge(clk) then if en = '1' then n <= n + 1; end if; end if; end process;\n\
+         q <= n; end;\n";
+    let drivers = gate(alloc, "y <= a; y <= b;")?;
+    for (top, file, text, map) in [
+        (
+            "Count",
+            counter,
+            "module count(\n  input wire clk,\n  input wire en,\n  output wire [3:0] q\n);\n  reg [3:0] n;\n  \
+             always @(posedge clk) begin\n    if (en) begin\n      n <= (n + 4'b0001);\n    end\n  end\n  assign q = n;\nendmodule\n",
+            "clk0,clk,clk,1,std\ndata,en,en,1,std\nout,q,q,4,4 of std\nreg,n,n,4,4 of std\n",
+        ),
+        (
+            "gate",
+            drivers.as_str(),
+            "module gate(\n  input wire a,\n  input wire b,\n  output wire y\n);\n  assign y = a;\n  assign y = b;\nendmodule\n",
+            "data,a,a,1,std\ndata,b,b,1,std\nout,y,y,1,std\n",
+        ),
+    ] {
+        let mut shelf = shelf_with(alloc, "g.vhd", file.as_bytes(), &[])?;
+        let mut out = MemSink::new(alloc, &[])?;
+        let words = ["translate", top, "g.v", "g.csv", "g.vhd"];
+        assert_eq!(rt; v2v(alloc, &words, &mut shelf, &mut out), 0, "top {top}");
+        assert_eq!(rt; out.bytes(), b"".as_slice());
+        assert_eq!(rt; shelf.get("g.v").ok_or("no text")?, text.as_bytes());
+        assert_eq!(rt; shelf.get("g.csv").ok_or("no map")?, map.as_bytes());
+    }
+    Ok(())
+}
+
+#[test]
 fn refuses_statements(rt: HostRuntime) -> Result<(), Fail> {
     let alloc = rt.alloc();
     for (statements, line) in [
         ("y <= a and not nope;", "g.vhd:3:48: N1\n"),
-        ("y <= a + b;", "g.vhd:3:40: Y1\n"),
-        ("y <= a and not b; y <= b;", "g.vhd:3:51: N1\n"),
+        ("y <= a + b;", "g.vhd:3:38: T1\n"),
+        ("y <= a and not b; z <= b;", "g.vhd:3:51: N1\n"),
         ("y <= a\n  and or b;", "g.vhd:4:7: Y1\n"),
     ] {
         let file = gate(alloc, statements)?;
@@ -74,12 +109,12 @@ fn refuses_files(rt: HostRuntime) -> Result<(), Fail> {
     let too_long = vec![in alloc; b' '; 16_777_217]?;
     let other_top = gate(alloc, "y <= a;")?;
     for (top, file, line) in [
-        ("gate", b"".as_slice(), "e.vhd:1:1: Y1\n"),
+        ("gate", b"".as_slice(), "e.vhd:1:1: E10\n"),
         ("gate", b"library iee;\n".as_slice(), "e.vhd:2:1: Y1\n"),
         ("gate", b"library ieee;".as_slice(), "e.vhd:1:14: Y1\n"),
         ("gate", b"library\n\nieee;\n".as_slice(), "e.vhd:4:1: Y1\n"),
         ("gate", too_long.as_slice(), "e.vhd:1:1: L1\n"),
-        ("other", other_top.as_bytes(), "e.vhd:1:1: N1\n"),
+        ("other", other_top.as_bytes(), "e.vhd:1:1: E10\n"),
         ("gate", b"y <= \"01".as_slice(), "e.vhd:1:6: X2\n"),
     ] {
         let mut shelf = shelf_with(alloc, "e.vhd", file, &[])?;
@@ -127,8 +162,8 @@ fn refuses_the_first_broken_file(rt: HostRuntime) -> Result<(), Fail> {
     let sound = gate(alloc, "y <= a;")?;
     let long = vec![in alloc; b' '; 16_777_217]?;
     for (first, second, line) in [
-        (sound.as_bytes(), sound.as_bytes(), "h.vhd:1:1: Y1\n"),
-        (b"".as_slice(), b"".as_slice(), "h.vhd:1:1: Y1\n"),
+        (sound.as_bytes(), sound.as_bytes(), "h.vhd:2:8: N5\n"),
+        (b"".as_slice(), b"".as_slice(), "g.vhd:1:1: E10\n"),
         (sound.as_bytes(), b"y <= \"01".as_slice(), "h.vhd:1:6: X2\n"),
         (
             b"entity".as_slice(),

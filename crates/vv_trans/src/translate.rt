@@ -221,7 +221,7 @@ fn within(files: &[&[u8]], refusal: Refusal) -> Fault
     }
 }
 
-/// The way of all files that are no file of gates: the phases over their units, and the writer. `first` is what the first path tells of them.
+/// The way of all files that are no file of gates: the phases over their units, and the writer.
 fn whole_path(alloc: Global, files: &[&[u8]], top: &str, first: Refusal) -> Result<Out, Fault>
     requires lexed { lexing 0 (bytes_of files.now) ≡ None }
     requires parsed { parsing 0 (bytes_of files.now) ≡ None }
@@ -231,7 +231,7 @@ fn whole_path(alloc: Global, files: &[&[u8]], top: &str, first: Refusal) -> Resu
     ensures file { IfErr result (λ fault. ForRefused fault (λ r. r.span.file < length files.now)) }
     ensures inside { IfErr result (λ fault. ForRefused fault (λ r. r.span.at ≤ length (get_or (bytes_of files.now) r.span.file []))) }
 {
-    match written(alloc, files, top, first) {
+    match written(alloc, files, top) {
         Ok(out) => Ok(out),
         Err(Fault::Refused(refusal)) => Err(within(files, refusal)),
         Err(Fault::Memory) => Err(Fault::Memory),
