@@ -8,8 +8,6 @@ pub mod number;
 pub mod piece;
 pub mod quoted;
 pub mod sign;
-#[cfg(test)]
-mod tests;
 pub mod token;
 pub mod tokens;
 pub mod word;

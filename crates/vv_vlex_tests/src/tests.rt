@@ -1,14 +1,14 @@
-use crate::element::Element;
-use crate::lexer::elements;
-use crate::sign::Sign;
-use crate::token::TokenKind;
-use crate::tokens::lex;
-use crate::word::{WORDS, Word};
 use std::alloc::Global;
 use std::test::Fail;
 use vv_base::fault::{Fault, Name, Refusal, Rule, Span};
 use vv_base::names::Names;
 use vv_base::text::ByteList;
+use vv_vlex::element::Element;
+use vv_vlex::lexer::elements;
+use vv_vlex::sign::Sign;
+use vv_vlex::token::TokenKind;
+use vv_vlex::tokens::lex;
+use vv_vlex::word::{WORDS, Word};
 
 /// Texts that are one element.
 static ONE: [(&[u8], Element<'static>); 41] = [
