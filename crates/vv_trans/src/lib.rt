@@ -4,4 +4,4 @@
 pub mod laws;
 pub mod out;
 pub mod translate;
-mod whole;
+pub mod whole;

@@ -231,7 +231,7 @@ fn whole_path(alloc: Global, files: &[&[u8]], top: &str, first: Refusal) -> Resu
     ensures file { IfErr result (λ fault. ForRefused fault (λ r. r.span.file < length files.now)) }
     ensures inside { IfErr result (λ fault. ForRefused fault (λ r. r.span.at ≤ length (get_or (bytes_of files.now) r.span.file []))) }
 {
-    match written(alloc, files, top) {
+    match written(alloc, files, top, Edition::Vhdl93) {
         Ok(out) => Ok(out),
         Err(Fault::Refused(refusal)) => Err(within(files, refusal)),
         Err(Fault::Memory) => Err(Fault::Memory),
