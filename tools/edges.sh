@@ -69,7 +69,16 @@ case_of "names with spaces" 0 "" translate gate "c c.v" "c c.csv" gate.vhd
 same "the same text" "c c.v" gate.v
 
 case_of "no words" 2 usage
-case_of "another command" 2 usage replay vhdl gate s.csv gate.vhd
+case_of "another command" 2 usage replays vhdl gate s.csv gate.vhd
+case_of "too few words of a replay" 2 usage replay vhdl gate s.csv
+case_of "a replay of a text with a file too many" 2 usage replay verilog gate s.csv gate.csv gate.v gate.vhd
+case_of "no stages" 2 usage gen 0 0 c.vhd s.csv c.v c.csv
+case_of "one name twice" 2 usage gen 1 0 c.vhd s.csv c.v c.vhd
+printf 'a,b\n1,0\n' >s.csv
+case_of "a replay of a design" 0 $'row,y\n0,U\n1,1' replay vhdl gate s.csv gate.vhd
+case_of "a replay of a text" 0 $'row,y\n0,x\n1,1' replay verilog gate s.csv gate.csv gate.v
+case_of "a comparison" 0 "equal 1" compare gate s.csv gate.csv gate.v gate.vhd
+case_of "a stimulus that is absent" 3 "read fault: t.csv" replay vhdl gate t.csv gate.vhd
 case_of "too few words" 2 usage translate gate d.v d.csv
 case_of "one file twice" 2 usage translate gate d.v d.csv gate.vhd gate.vhd
 case_of "256 files" 2 usage translate gate d.v d.csv {1..256}.vhd
@@ -83,9 +92,9 @@ case_of "a word that is not UTF-8" 2 usage translate gate d.v d.csv $'gate\xff.v
 absent "no text after status 2" d.v
 absent "no map after status 2" d.csv
 
-case_of "a refused file" 1 "bad.vhd:1:1: Y1" translate gate e.v e.csv bad.vhd
+case_of "a refused file" 1 "bad.vhd:1:1: E10" translate gate e.v e.csv bad.vhd
 case_of "an open string" 1 "open.vhd:1:6: X2" translate gate e.v e.csv open.vhd
-case_of "a second file" 1 "bad.vhd:1:1: Y1" translate gate e.v e.csv gate.vhd bad.vhd
+case_of "a second file" 1 "bad.vhd:1:8: N5" translate gate e.v e.csv gate.vhd bad.vhd
 case_of "an open string in the third file" 1 "open.vhd:1:6: X2" translate gate e.v e.csv gate.vhd bad.vhd open.vhd
 absent "no text after status 1" e.v
 absent "no map after status 1" e.csv

@@ -7,8 +7,7 @@ Runs each case in a fresh folder, four at a time. Prints a line for each failing
 status 1 where one failed.
 
   --bin PATH       the program, such as crates/v2v/out/v2v
-  --only PREFIX    the cases whose names begin so, such as `N`, `T8`, `E11.0`, `ok-types`, `doc`, `translate`, `replay`.
-                   Cases of `replay` and `compare` are run only where this asks for them: by `replay`, and by `doc-replay`
+  --only PREFIX    the cases whose names begin so, such as `N`, `T8`, `E11.0`, `ok-types`, `doc`, `translate`, `replay`
   --slow           also those that evaluate a million steps or hold a million elements
   --list           prints the names, with what each shows, and runs nothing
 
@@ -198,10 +197,7 @@ def is_wanted(case, arguments):
     """Whether the words of the command ask for this case."""
     if case.get("slow") and not arguments.slow:
         return False
-    prefix = arguments.only or ""
-    if re.match(r"(doc-)?replay\.", case["name"]) and not re.match(r"(doc-)?replay", prefix):
-        return False
-    return case["name"].startswith(prefix)
+    return case["name"].startswith(arguments.only or "")
 
 
 def main():

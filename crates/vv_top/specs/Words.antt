@@ -1,5 +1,5 @@
 -- The words of a command.
-use Rattle.std.specs.Prelude.{ℕ, ◌<◌, ◌≤◌, Bool, true, false, not, ◌&&◌, ◌==◌, nat_lt, List, [], ◌∷◌, length, Option, Some, None, IsTrue, bytes_eq, codes, if◌then◌else◌}
+use Rattle.std.specs.Prelude.{ℕ, ◌<◌, ◌≤◌, Bool, true, false, not, ◌&&◌, ◌||◌, ◌==◌, nat_lt, List, [], ◌∷◌, length, Option, Some, None, IsTrue, bytes_eq, codes, if◌then◌else◌}
 use Rattle.std.specs.List.{list_any}
 use denote.Ref.{Bor}
 use Rattle.vv_trans.specs.Translation.{bytes_of}
@@ -36,6 +36,15 @@ wanted_of words = None
 -- the same of words in the program
 abbrev pub asked : List (Bor (List ℕ)) → Option Wanted
 asked words = wanted_of (bytes_of words)
+
+-- words that begin like a command that is no translation
+abbrev pub begins_further : List (List ℕ) → Bool
+begins_further [] = false
+begins_further (verb ∷ rest) = bytes_eq verb (codes "replay") || (bytes_eq verb (codes "compare") || bytes_eq verb (codes "gen"))
+
+-- the same of words in the program
+abbrev pub is_further : List (Bor (List ℕ)) → Bool
+is_further words = begins_further (bytes_of words)
 
 -- what a command in the program stands for
 abbrev pub wanted : Command → Wanted

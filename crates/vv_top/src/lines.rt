@@ -30,14 +30,16 @@ pub fn place_line(
     format!(in alloc; "{name}:{line}:{column}: {code}\n")
 }
 
-fn line_at(file: &[u8], at: u32) -> usize
+/// The line of a place.
+pub fn line_at(file: &[u8], at: u32) -> usize
     requires { at ≤ length file.now }
     ensures { result ≡ line_at file.now at }
 {
     file[..at as usize].iter().filter(|b| **b == b'\n').count() + 1
 }
 
-fn column_at(file: &[u8], at: u32) -> usize
+/// The column of a place.
+pub fn column_at(file: &[u8], at: u32) -> usize
     requires { at ≤ length file.now }
     ensures { result ≡ column_at file.now at }
 {

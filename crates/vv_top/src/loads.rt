@@ -17,7 +17,8 @@ pub enum LoadStop {
     Memory,
 }
 
-fn load_one<D: Shelf>(alloc: Global, name: &str, shelf: &mut D) -> Result<Vec<u8>, LoadFault>
+/// The bytes of the file of this name.
+pub fn load_one<D: Shelf>(alloc: Global, name: &str, shelf: &mut D) -> Result<Vec<u8>, LoadFault>
     ensures loaded { IfOk result (λ file. Gives (D.held shelf.old name.now) file.items) }
     ensures cause { IsErrOf result LoadFault.Failed
         → Rose (D.failed_loads shelf.old name.now) (D.failed_loads shelf.new name.now) }

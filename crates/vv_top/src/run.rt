@@ -30,7 +30,8 @@ pub enum Stop {
     Memory,
 }
 
-fn slices(alloc: Global, files: &[Vec<u8>]) -> Result<Vec<&[u8]>, AllocError>
+/// The bytes of files, borrowed.
+pub fn slices(alloc: Global, files: &[Vec<u8>]) -> Result<Vec<&[u8]>, AllocError>
     ensures { IfOk result (λ slices.
         bytes_of slices.items ≡ map (λ file. file.items) files.now) }
 {

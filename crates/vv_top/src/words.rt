@@ -51,7 +51,8 @@ impl<'a> Command<'a> {
     }
 }
 
-fn begins_with_dash(word: &str) -> bool
+/// Whether a word begins with `-`, so that it is no top.
+pub fn begins_with_dash(word: &str) -> bool
     ensures { result ≡ begins_with_dash word.now }
 {
     match word.as_bytes() {
@@ -74,7 +75,7 @@ fn stands_in(name: &str, names: &[&str]) -> bool
 }
 
 /// Whether each name differs from all others, byte for byte.
-fn differ(names: &[&str]) -> bool
+pub fn differ(names: &[&str]) -> bool
     ensures { result ≡ differ (bytes_of names.now) }
 {
     let mut rest = names;
